@@ -1,0 +1,113 @@
+-- Document 01, "Calls", of sets: each call's number, by its tests in their order (IMAGE, the image's own, comes before these), and what it lists.
+-- Assumes nothing.
+use Prim.Native.Nat.{ℕ, _+_, _*_, _/_}
+use mathlib.Core.Bool.{Bool, true, false, not, _&&_, _||_}
+use mathlib.Core.List.{List, [], _∷_, _++_, map, flatMap}
+use lib.Dec.{leb, ltb, eqb}
+use lib.ListN.{length, take, drop, getD}
+use lib.Seq.{sets}
+use Rattle.words.specs.Lists.{filter, some, lastOr, firstNo, sum}
+use Rattle.regions.specs.Positions.{account, wellBound, wellFormed, holds, inside, isAbove, isBelow}
+use Rattle.regions.specs.Sets.{Set, of, heldBy, shareOf, heldAt, crossed, startsBehind}
+use Rattle.regions.specs.Numbers.{REGION, ACCOUNT, HELD, CROSS, SHARE, ABSENT, SHARES}
+use Rattle.regions.specs.declared.Region.{Region}
+use Rattle.regions.specs.declared.Kind.{Kind}
+use Rattle.regions.specs.declared.Kind.the-variants.{Ancestor, Parent}
+
+-- AS MANY AS FIT: whole items of so many words each; the first ones are written, other words stay
+abbrev pub room : ℕ → List ℕ → ℕ
+room width out = length out / width
+
+unfoldable pub written : {X : Type 0} → (X → List ℕ) → ℕ → List ℕ → List X → List ℕ
+written words width out xs = sets out 0 (flatMap words (take (room width out) xs))
+
+-- how many those are, and whether more remain
+unfoldable pub countWritten : {X : Type 0} → ℕ → List ℕ → List X → ℕ
+countWritten width out xs = length (take (room width out) xs)
+
+unfoldable pub moreRemain : {X : Type 0} → ℕ → List ℕ → List X → Bool
+moreRemain width out xs = some (drop (room width out) xs)
+
+-- a region in words
+abbrev pub regionWidth : ℕ
+regionWidth = 4
+
+abbrev pub regionWords : Region → List ℕ
+regionWords r = r .start ∷ r .end ∷ r .level ∷ r .reference ∷ []
+
+-- account above 15, or a position of another account
+unfoldable pub foreign : ℕ → ℕ → Bool
+foreign a p = ltb 15 a || not (eqb (account p) a)
+
+-- OPENING A SET
+unfoldable pub openSetNo : List ℕ → ℕ
+openSetNo shares = firstNo ((ltb 500 (sum shares), SHARES) ∷ [])
+
+-- SAVE and DELETE
+unfoldable pub saveNo : Set → ℕ → Region → ℕ
+saveNo S a r =
+    firstNo
+    ((not (wellFormed r), REGION) ∷
+    (foreign a (r .start), ACCOUNT) ∷
+    (heldAt (r .start) S, HELD) ∷
+    (crossed r S, CROSS) ∷
+    (leb (shareOf a S) (heldBy a S), SHARE) ∷
+    [])
+
+unfoldable pub deleteNo : Set → ℕ → ℕ → ℕ
+deleteNo S a s = firstNo ((foreign a s, ACCOUNT) ∷ (not (heldAt s S), ABSENT) ∷ [])
+
+-- ANCESTOR and PARENT SEARCH, by a position
+unfoldable pub pointNo : ℕ → ℕ → ℕ
+pointNo a p = firstNo ((foreign a p, ACCOUNT) ∷ [])
+
+-- ascending starts: outermost first
+abbrev pub ancestors : ℕ → Set → List Region
+ancestors p S = filter (holds p) (S .regions)
+
+-- none or one: of several the innermost
+unfoldable pub innermost : List Region → List Region
+innermost [] = []
+innermost (x ∷ xs) = lastOr x xs ∷ []
+
+abbrev pub parent : ℕ → ℕ → Set → List Region
+parent p l S = innermost (filter (isAbove l) (ancestors p S))
+
+-- DESCENDANT and CHILD SEARCH, by bounds; "after" is any number
+unfoldable pub boundsNo : ℕ → ℕ → ℕ → ℕ
+boundsNo a s e = firstNo ((not (wellBound s e), REGION) ∷ (foreign a s, ACCOUNT) ∷ [])
+
+abbrev pub descendants : ℕ → ℕ → ℕ → Set → List Region
+descendants s e after S = filter (startsBehind after) (filter (inside s e) (S .regions))
+
+abbrev pub children : ℕ → ℕ → ℕ → ℕ → Set → List Region
+children s e l after S = filter (isBelow l) (descendants s e after S)
+
+-- THE JOIN of an account, by d's start and then a's start
+pub record Pair : Type 0 where
+  pub a : Region
+  pub d : Region
+
+unfoldable pub pairsWith : Kind → Region → Region → Bool
+pairsWith Ancestor d a = holds (d .start) a
+pairsWith Parent d a = holds (d .start) a && isAbove (d .level) a
+
+abbrev pub pairOf : Region → Region → Pair
+pairOf d a = record { a = a; d = d }
+
+-- the pairs of one d
+unfoldable pub pairsOf : Kind → List Region → Region → List Pair
+pairsOf k outer d = map (pairOf d) (filter (pairsWith k d) outer)
+
+unfoldable pub joined : Set → Set → ℕ → Kind → List Pair
+joined X Y a k = flatMap (pairsOf k (filter (of a) (X .regions))) (filter (of a) (Y .regions))
+
+unfoldable pub joinNo : ℕ → ℕ
+joinNo a = firstNo ((ltb 15 a, ACCOUNT) ∷ [])
+
+-- a pair in words
+abbrev pub pairWidth : ℕ
+pairWidth = 4
+
+abbrev pub pairWords : Pair → List ℕ
+pairWords q = q .a .start ∷ q .a .reference ∷ q .d .start ∷ q .d .reference ∷ []

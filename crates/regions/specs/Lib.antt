@@ -1,0 +1,5 @@
+pub mod Positions
+pub mod Sets
+pub mod Numbers
+pub mod Calls
+pub mod Desk

@@ -1,0 +1,54 @@
+-- Document 01, "Positions, regions, accounts".
+-- Assumes nothing.
+use Prim.Native.Nat.{ℕ, _+_, _/_}
+use mathlib.Core.Bool.{Bool, true, false, not, _&&_, _||_}
+use lib.Dec.{leb, ltb, eqb}
+use Rattle.regions.specs.declared.Region.{Region}
+
+-- a position's document, and its account
+abbrev pub document : ℕ → ℕ
+document p = p / 65536
+
+abbrev pub account : ℕ → ℕ
+account p = p / 268435456
+
+-- search bounds: the start comes first, and both lie in one document
+unfoldable pub wellBound : ℕ → ℕ → Bool
+wellBound s e = ltb s e && eqb (document s) (document e)
+
+-- a region: so its start and end, and its level is 1 to 255. The reference is any number
+unfoldable pub wellFormed : Region → Bool
+wellFormed r = wellBound (r .start) (r .end) && (leb 1 (r .level) && leb (r .level) 255)
+
+-- x ends before y starts; x has the smaller start and the larger end
+unfoldable pub endsBefore : Region → Region → Bool
+endsBefore x y = ltb (x .end) (y .start)
+
+unfoldable pub contains : Region → Region → Bool
+contains x y = ltb (x .start) (y .start) && ltb (y .end) (x .end)
+
+-- nested rightly, either way round; all else crosses, a shared endpoint included
+unfoldable pub nested : Region → Region → Bool
+nested x y = (endsBefore x y || endsBefore y x) || (contains x y || contains y x)
+
+unfoldable pub crosses : Region → Region → Bool
+crosses x y = not (nested x y)
+
+-- a key stabs a region ("A valid image", rule 3)
+unfoldable pub stabs : ℕ → Region → Bool
+stabs k r = leb (r .start) k && leb k (r .end)
+
+-- a region holds a position strictly: it is an ancestor of what starts there
+unfoldable pub holds : ℕ → Region → Bool
+holds p r = ltb (r .start) p && ltb p (r .end)
+
+-- a start that lies strictly inside given bounds: the region is a descendant of what has them
+unfoldable pub inside : ℕ → ℕ → Region → Bool
+inside s e r = ltb s (r .start) && ltb (r .start) e
+
+-- the level one less, as a parent has it, and one more, as a child has it. (Level 0 has no parent, since no level is one less)
+unfoldable pub isAbove : ℕ → Region → Bool
+isAbove l r = eqb (r .level + 1) l
+
+unfoldable pub isBelow : ℕ → Region → Bool
+isBelow l r = eqb (r .level) (l + 1)

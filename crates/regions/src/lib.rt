@@ -1,0 +1,161 @@
+// Regions, kinds, marks and seats, and the small tests on them that everybody needs, each equal to its definition.
+ghost use mathlib.Core.Path.{_≡_};
+ghost use Rattle.regions.specs.Positions.{document, account, wellBound, wellFormed, endsBefore, contains, nested, crosses, stabs, holds, inside, isAbove, isBelow};
+ghost use Rattle.regions.specs.Calls.{foreign};
+
+// An element: where it starts and ends, its depth in its document, and the house's reference to it.
+pub struct Region {
+    pub start: u32,
+    pub end: u32,
+    pub level: u32,
+    pub reference: u32,
+}
+
+// What a join pairs.
+pub enum Kind {
+    Ancestor,
+    Parent,
+}
+
+// How far a seat has been served: the last pair handed, by a's start and d's start.
+pub enum Mark {
+    Fresh,
+    Last(u32, u32),
+}
+
+pub struct Open {
+    pub account: u32,
+    pub kind: Kind,
+    pub limit: u32,
+    pub mark: Mark,
+}
+
+pub enum State {
+    Closed,
+    Open(Open),
+}
+
+pub struct Seat {
+    pub state: State,
+}
+
+pub fn document_of(p: u32) -> u32
+    ensures { λ r. ⌜ r ≡ document p ⌝ }
+{
+    p / 65536
+}
+
+pub fn account_of(p: u32) -> u32
+    ensures { λ r. ⌜ r ≡ account p ⌝ }
+{
+    p / 268435456
+}
+
+pub fn well_bound(start: u32, end: u32) -> bool
+    ensures { λ r. ⌜ r ≡ wellBound start end ⌝ }
+{
+    if start >= end {
+        return false;
+    }
+    document_of(start) == document_of(end)
+}
+
+pub fn well_formed(r: Region) -> bool
+    ensures { λ t. ⌜ t ≡ wellFormed r ⌝ }
+{
+    if !well_bound(r.start, r.end) {
+        return false;
+    }
+    if r.level < 1 {
+        return false;
+    }
+    r.level <= 255
+}
+
+pub fn ends_before(x: Region, y: Region) -> bool
+    ensures { λ t. ⌜ t ≡ endsBefore x y ⌝ }
+{
+    x.end < y.start
+}
+
+pub fn contains(x: Region, y: Region) -> bool
+    ensures { λ t. ⌜ t ≡ contains x y ⌝ }
+{
+    if x.start >= y.start {
+        return false;
+    }
+    y.end < x.end
+}
+
+pub fn crosses(x: Region, y: Region) -> bool
+    ensures { λ t. ⌜ t ≡ crosses x y ⌝ }
+{
+    if ends_before(x, y) {
+        return false;
+    }
+    if ends_before(y, x) {
+        return false;
+    }
+    if contains(x, y) {
+        return false;
+    }
+    !contains(y, x)
+}
+
+pub fn stabs(k: u32, r: Region) -> bool
+    ensures { λ t. ⌜ t ≡ stabs k r ⌝ }
+{
+    if k < r.start {
+        return false;
+    }
+    k <= r.end
+}
+
+pub fn holds(p: u32, r: Region) -> bool
+    ensures { λ t. ⌜ t ≡ holds p r ⌝ }
+{
+    if p <= r.start {
+        return false;
+    }
+    p < r.end
+}
+
+pub fn inside(start: u32, end: u32, r: Region) -> bool
+    ensures { λ t. ⌜ t ≡ inside start end r ⌝ }
+{
+    if r.start <= start {
+        return false;
+    }
+    r.start < end
+}
+
+// Whether the region's level is one less than the given one; level + 1 would not fit at the last number.
+pub fn is_above(level: u32, r: Region) -> bool
+    ensures { λ t. ⌜ t ≡ isAbove level r ⌝ }
+{
+    if level == 0 {
+        return false;
+    }
+    r.level == level - 1
+}
+
+// Whether the region's level is one more.
+pub fn is_below(level: u32, r: Region) -> bool
+    ensures { λ t. ⌜ t ≡ isBelow level r ⌝ }
+{
+    let l = r.level;
+    if l == 0 {
+        return false;
+    }
+    l - 1 == level
+}
+
+// Account above 15, or a position of another account.
+pub fn foreign(account: u32, p: u32) -> bool
+    ensures { λ t. ⌜ t ≡ foreign account p ⌝ }
+{
+    if 15 < account {
+        return true;
+    }
+    account_of(p) != account
+}

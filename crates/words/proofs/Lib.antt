@@ -1,0 +1,5 @@
+pub mod Tests
+pub mod Listed
+pub mod Says
+pub mod Written
+pub mod Counted

@@ -1,0 +1,63 @@
+-- Words that are written from an index on: which words stay, what stands there, and one run of writes after another.
+-- Assumes nothing.
+use Prim.Native.Nat.{ℕ, zero, suc, _+_, _*_, _-_, _/_, _<_, _≤_, min}
+use mathlib.Core.Path.{_≡_, refl, sym, ap, ap₂, _∙_}
+use mathlib.Core.List.{List, [], _∷_, _++_, flatMap}
+use lib.ListN.{length, take, drop, getD, set, length-append, length-take, length-set}
+use lib.Seq.{sets, length-sets, getD-set-same, getD-set-other, take-all, take-append-le}
+use native.Mathlib.Omega.{arith}
+use native.Mathlib.Nat.{mul-zero, mul-suc, add-comm}
+use native.Mathlib.Decide.{decLe}
+use Rattle.words.specs.Lists.{All}
+use Rattle.words.proofs.Listed.{flat-append}
+
+module _ {A : Type 0} where
+  pub sets-below : (vs l : List A) (i j : ℕ) (d : A) → j < i → getD (sets l i vs) j d ≡ getD l j d
+  sets-below [] l i j d h = refl
+  sets-below (v ∷ vs) l i j d h = sets-below vs (set l i v) (suc i) j d (omega arith) ∙ getD-set-other l i j v d (λ e. omega arith)
+
+  pub sets-above : (vs l : List A) (i j : ℕ) (d : A) → i + length vs ≤ j → getD (sets l i vs) j d ≡ getD l j d
+  sets-above [] l i j d h = refl
+  sets-above (v ∷ vs) l i j d h = sets-above vs (set l i v) (suc i) j d (omega arith) ∙ getD-set-other l i j v d (λ e. omega arith)
+
+  pub sets-in : (vs l : List A) (i k : ℕ) (d : A) → k < length vs → i + length vs ≤ length l → getD (sets l i vs) (i + k) d ≡ getD vs k d
+  sets-in [] l i k d h f = absurd (omega arith)
+  sets-in (v ∷ vs) l i zero d h f =
+      let e : i + 0 ≡ i = omega arith in
+      rw e (sets-below vs (set l i v) (suc i) i d (omega arith) ∙ getD-set-same l i v d (omega arith))
+  sets-in (v ∷ vs) l i (suc k) d h f =
+      let e : i + suc k ≡ suc i + k = omega arith in
+      rw e (sets-in vs (set l i v) (suc i) k d (omega arith) (omega (arith, length-set l i v)))
+
+  pub sets-append : (l : List A) (i j : ℕ) (us vs : List A) → j ≡ i + length us → sets (sets l i us) j vs ≡ sets l i (us ++ vs)
+  sets-append l i j [] vs e = ap (λ (x : ℕ). sets l x vs) (omega arith)
+  sets-append l i j (u ∷ us) vs e = sets-append _ (suc i) j us vs (omega arith)
+
+  pub take-append-more : (p q : List A) (c : ℕ) → length p ≤ c → take c (p ++ q) ≡ p ++ take (c - length p) q
+  take-append-more [] q c h = let e : c - 0 ≡ c = omega arith in rw e
+  take-append-more (r ∷ p) q zero h = absurd (omega arith)
+  take-append-more (r ∷ p) q (suc c) h =
+      let e : suc c - suc (length p) ≡ c - length p = omega arith in
+      rw e (ap (λ (x : List A). r ∷ x) (take-append-more p q c (omega arith)))
+
+  -- the first c of two lists
+  pub take-both : (c : ℕ) (p q : List A) → take c (p ++ q) ≡ take c p ++ take (c - length (take c p)) q
+  take-both zero p q = refl
+  take-both (suc c) [] q = let e : suc c - 0 ≡ suc c = omega arith in rw e
+  take-both (suc c) (x ∷ p) q =
+      let e : suc c - suc (length (take c p)) ≡ c - length (take c p) = omega arith in
+      rw e (ap (λ (l : List A). x ∷ l) (take-both c p q))
+
+-- items of m words each
+module _ {A B : Type 0} (f : A → List B) (m : ℕ) (wide : (x : A) → length (f x) ≡ m) where
+  pub flat-long : (xs : List A) → length (flatMap f xs) ≡ m * length xs
+  unfolding flatMap
+  flat-long [] = sym (mul-zero m)
+  flat-long (x ∷ xs) = length-append (f x) (flatMap f xs) ∙ ap₂ _+_ (wide x) (flat-long xs) ∙ add-comm m (m * length xs) ∙ sym (mul-suc m (length xs))
+
+  -- at most c items, first of p and then of q, are at most c items of p and q together
+  pub fill-two : (l : List B) (i c : ℕ) (p q : List A)
+      → sets (sets l i (flatMap f (take c p))) (i + m * length (take c p)) (flatMap f (take (c - length (take c p)) q)) ≡ sets l i (flatMap f (take c (p ++ q)))
+  fill-two l i c p q =
+      sets-append l i (i + m * length (take c p)) (flatMap f (take c p)) (flatMap f (take (c - length (take c p)) q)) (ap (λ n. i + n) (sym (flat-long (take c p))))
+      ∙ ap (λ x. sets l i x) (sym (flat-append f (take c p) (take (c - length (take c p)) q)) ∙ ap (flatMap f) (sym (take-both c p q)))
