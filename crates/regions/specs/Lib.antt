@@ -3,3 +3,4 @@ pub mod Sets
 pub mod Numbers
 pub mod Calls
 pub mod Desk
+pub mod Bench

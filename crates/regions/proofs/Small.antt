@@ -1,0 +1,121 @@
+-- The small tests on regions, one law for each way out of their functions: what is answered there is what the definition says.
+-- Assumes nothing.
+use Prim.Native.Nat.{ℕ, _+_, _-_, _<_, _≤_}
+use mathlib.Core.Path.{_≡_, refl, sym, ap}
+use mathlib.Core.Bool.{Bool, true, false, not}
+use lib.Dec.{T, leb, ltb, eqb, eqb→eq}
+use native.Mathlib.Omega.{arith}
+use Rattle.words.proofs.Tests.{lt-yes, lt-no, le-yes, le-no, eq-yes, eq-no, both, T-of}
+use Rattle.regions.specs.declared.Region.{Region}
+use Rattle.regions.specs.Positions.{document, account, wellBound, wellFormed, endsBefore, contains, nested, crosses, stabs, holds, inside, isAbove, isBelow}
+use Rattle.regions.specs.Calls.{foreign}
+
+-- search bounds, and a region
+pub bound-no : (s e : ℕ) → e ≤ s → false ≡ wellBound s e
+unfolding wellBound
+bound-no s e h = rw (lt-no s e h)
+
+pub bound-is : (s e : ℕ) → s < e → eqb (document s) (document e) ≡ wellBound s e
+unfolding wellBound
+bound-is s e h = rw (lt-yes s e h)
+
+pub formed-no : (r : Region) → wellBound (r .start) (r .end) ≡ false → false ≡ wellFormed r
+unfolding wellFormed
+formed-no r h = rw h
+
+pub formed-low : (r : Region) → wellBound (r .start) (r .end) ≡ true → r .level < 1 → false ≡ wellFormed r
+unfolding wellFormed
+formed-low r h l = rw (h, le-no 1 (r .level) l)
+
+pub formed-is : (r : Region) → wellBound (r .start) (r .end) ≡ true → 1 ≤ r .level → leb (r .level) 255 ≡ wellFormed r
+unfolding wellFormed
+formed-is r h l = rw (h, le-yes 1 (r .level) l)
+
+-- two regions
+pub ends-is : (x y : Region) → ltb (x .end) (y .start) ≡ endsBefore x y
+unfolding endsBefore
+ends-is x y = refl
+
+pub contains-no : (x y : Region) → y .start ≤ x .start → false ≡ contains x y
+unfolding contains
+contains-no x y h = rw (lt-no (x .start) (y .start) h)
+
+pub contains-is : (x y : Region) → x .start < y .start → ltb (y .end) (x .end) ≡ contains x y
+unfolding contains
+contains-is x y h = rw (lt-yes (x .start) (y .start) h)
+
+pub crosses-before : (x y : Region) → endsBefore x y ≡ true → false ≡ crosses x y
+unfolding crosses nested
+crosses-before x y h = rw h
+
+pub crosses-behind : (x y : Region) → endsBefore x y ≡ false → endsBefore y x ≡ true → false ≡ crosses x y
+unfolding crosses nested
+crosses-behind x y h k = rw (h, k)
+
+pub crosses-around : (x y : Region) → endsBefore x y ≡ false → endsBefore y x ≡ false → contains x y ≡ true → false ≡ crosses x y
+unfolding crosses nested
+crosses-around x y h k l = rw (h, k, l)
+
+pub crosses-is : (x y : Region) → endsBefore x y ≡ false → endsBefore y x ≡ false → contains x y ≡ false → not (contains y x) ≡ crosses x y
+unfolding crosses nested
+crosses-is x y h k l = rw (h, k, l)
+
+-- a region and a number
+pub stabs-no : (k : ℕ) (r : Region) → k < r .start → false ≡ stabs k r
+unfolding stabs
+stabs-no k r h = rw (le-no (r .start) k h)
+
+pub stabs-is : (k : ℕ) (r : Region) → r .start ≤ k → leb k (r .end) ≡ stabs k r
+unfolding stabs
+stabs-is k r h = rw (le-yes (r .start) k h)
+
+pub holds-no : (p : ℕ) (r : Region) → p ≤ r .start → false ≡ holds p r
+unfolding holds
+holds-no p r h = rw (lt-no (r .start) p h)
+
+pub holds-is : (p : ℕ) (r : Region) → r .start < p → ltb p (r .end) ≡ holds p r
+unfolding holds
+holds-is p r h = rw (lt-yes (r .start) p h)
+
+pub inside-no : (s e : ℕ) (r : Region) → r .start ≤ s → false ≡ inside s e r
+unfolding inside
+inside-no s e r h = rw (lt-no s (r .start) h)
+
+pub inside-is : (s e : ℕ) (r : Region) → s < r .start → ltb (r .start) e ≡ inside s e r
+unfolding inside
+inside-is s e r h = rw (lt-yes s (r .start) h)
+
+-- levels
+eq-both : (a b c d : ℕ) → (a ≡ b → c ≡ d) → (c ≡ d → a ≡ b) → eqb a b ≡ eqb c d
+eq-both a b c d f g = both (eqb a b) (eqb c d) (λ t. to c d (f (of a b t))) (λ t. to a b (g (of c d t)))
+  where
+    of : (m n : ℕ) → T (eqb m n) → m ≡ n
+    of m n t = eqb→eq m n t
+
+    to : (m n : ℕ) → m ≡ n → T (eqb m n)
+    to m n e = T-of (eq-yes m n e)
+
+pub above-no : (l : ℕ) (r : Region) → l ≡ 0 → false ≡ isAbove l r
+unfolding isAbove
+above-no l r h = rw (eq-no (r .level + 1) l (λ e. omega arith))
+
+pub above-is : (l : ℕ) (r : Region) → 1 ≤ l → eqb (r .level) (l - 1) ≡ isAbove l r
+unfolding isAbove
+above-is l r h = eq-both (r .level) (l - 1) (r .level + 1) l (λ e. omega arith) (λ e. omega arith)
+
+pub below-no : (l : ℕ) (r : Region) → r .level ≡ 0 → false ≡ isBelow l r
+unfolding isBelow
+below-no l r h = rw (eq-no (r .level) (l + 1) (λ e. omega arith))
+
+pub below-is : (l : ℕ) (r : Region) → 1 ≤ r .level → eqb (r .level - 1) l ≡ isBelow l r
+unfolding isBelow
+below-is l r h = eq-both (r .level - 1) l (r .level) (l + 1) (λ e. omega arith) (λ e. omega arith)
+
+-- an account and a position
+pub foreign-far : (a p : ℕ) → 15 < a → true ≡ foreign a p
+unfolding foreign
+foreign-far a p h = rw (lt-yes 15 a h)
+
+pub foreign-is : (a p : ℕ) → a ≤ 15 → not (eqb (account p) a) ≡ foreign a p
+unfolding foreign
+foreign-is a p h = rw (lt-no 15 a h)
