@@ -1,2 +1,11 @@
 pub mod Small
 pub mod Bench
+pub mod Extra
+pub mod Means
+pub mod Local
+pub mod Done
+pub mod Rising
+pub mod Chain
+pub mod Joined
+pub mod Fits
+pub mod Seats

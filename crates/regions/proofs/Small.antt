@@ -1,14 +1,15 @@
 -- The small tests on regions, one law for each way out of their functions: what is answered there is what the definition says.
 -- Assumes nothing.
 use Prim.Native.Nat.{ℕ, _+_, _-_, _<_, _≤_}
-use mathlib.Core.Path.{_≡_, refl, sym, ap}
-use mathlib.Core.Bool.{Bool, true, false, not}
-use lib.Dec.{T, leb, ltb, eqb, eqb→eq}
+use mathlib.Core.Path.{_≡_, refl}
+use mathlib.Core.Bool.{true, false, not}
+use lib.Dec.{leb, ltb, eqb}
 use native.Mathlib.Omega.{arith}
-use Rattle.words.proofs.Tests.{lt-yes, lt-no, le-yes, le-no, eq-yes, eq-no, both, T-of}
+use Rattle.words.proofs.Tests.{lt-yes, lt-no, le-yes, le-no, eq-no}
 use Rattle.regions.specs.declared.Region.{Region}
 use Rattle.regions.specs.Positions.{document, account, wellBound, wellFormed, endsBefore, contains, nested, crosses, stabs, holds, inside, isAbove, isBelow}
 use Rattle.regions.specs.Calls.{foreign}
+use Rattle.regions.proofs.Extra.{eq-same}
 
 -- search bounds, and a region
 pub bound-no : (s e : ℕ) → e ≤ s → false ≡ wellBound s e
@@ -86,22 +87,13 @@ unfolding inside
 inside-is s e r h = rw (lt-yes s (r .start) h)
 
 -- levels
-eq-both : (a b c d : ℕ) → (a ≡ b → c ≡ d) → (c ≡ d → a ≡ b) → eqb a b ≡ eqb c d
-eq-both a b c d f g = both (eqb a b) (eqb c d) (λ t. to c d (f (of a b t))) (λ t. to a b (g (of c d t)))
-  where
-    of : (m n : ℕ) → T (eqb m n) → m ≡ n
-    of m n t = eqb→eq m n t
-
-    to : (m n : ℕ) → m ≡ n → T (eqb m n)
-    to m n e = T-of (eq-yes m n e)
-
 pub above-no : (l : ℕ) (r : Region) → l ≡ 0 → false ≡ isAbove l r
 unfolding isAbove
 above-no l r h = rw (eq-no (r .level + 1) l (λ e. omega arith))
 
 pub above-is : (l : ℕ) (r : Region) → 1 ≤ l → eqb (r .level) (l - 1) ≡ isAbove l r
 unfolding isAbove
-above-is l r h = eq-both (r .level) (l - 1) (r .level + 1) l (λ e. omega arith) (λ e. omega arith)
+above-is l r h = eq-same (r .level) (l - 1) (r .level + 1) l (λ e. omega arith) (λ e. omega arith)
 
 pub below-no : (l : ℕ) (r : Region) → r .level ≡ 0 → false ≡ isBelow l r
 unfolding isBelow
@@ -109,7 +101,7 @@ below-no l r h = rw (eq-no (r .level) (l + 1) (λ e. omega arith))
 
 pub below-is : (l : ℕ) (r : Region) → 1 ≤ r .level → eqb (r .level - 1) l ≡ isBelow l r
 unfolding isBelow
-below-is l r h = eq-both (r .level - 1) l (r .level) (l + 1) (λ e. omega arith) (λ e. omega arith)
+below-is l r h = eq-same (r .level - 1) l (r .level) (l + 1) (λ e. omega arith) (λ e. omega arith)
 
 -- an account and a position
 pub foreign-far : (a p : ℕ) → 15 < a → true ≡ foreign a p

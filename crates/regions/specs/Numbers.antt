@@ -46,3 +46,7 @@ FORM = 12
 -- what is so where the number is 0, and what where the call is refused
 abbrev pub unless : {X : Type 0} → ℕ → X → X → X
 unless number done refused = cond (eqb number DONE) done refused
+
+-- every call on an image tests IMAGE before all else
+abbrev pub imageFirst : Bool → ℕ → ℕ
+imageFirst fits number = cond fits number IMAGE

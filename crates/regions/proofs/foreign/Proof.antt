@@ -15,7 +15,9 @@ account-of-requires : tie.Need-account-of-requires
 account-of-requires c κs = search needs
 
 returns-2 : tie.Need-returns-2
-returns-2 c = ap (λ n. not (eqb n (c .before .before .args .account))) (c .account-of .ensures) ∙ foreign-is _ _ (c .before .if1 .left)
+returns-2 c =
+    ap (λ n. not (eqb n (c .before .before .args .account))) (c .account-of .ensures)
+    ∙ foreign-is _ _ (c .before .if1 .left)
 
 pub foreign-spec : {M : Type 1} → statement M
 foreign-spec = tie.close (tie.spec returns account-of-requires returns-2)

@@ -17,7 +17,9 @@ document-of-requires-2 : tie.Need-document-of-requires-2
 document-of-requires-2 c κs = search needs
 
 returns-2 : tie.Need-returns-2
-returns-2 c = ap₂ eqb (c .before .document-of .ensures) (c .document-of2 .ensures) ∙ bound-is _ _ (c .before .before .if1 .left)
+returns-2 c =
+    ap₂ eqb (c .before .document-of .ensures) (c .document-of2 .ensures)
+    ∙ bound-is _ _ (c .before .before .if1 .left)
 
 pub well-bound-spec : {M : Type 1} → statement M
 well-bound-spec =

@@ -14,10 +14,16 @@ returns : tie.Need-returns
 returns c = formed-no _ (sym (c .before .well-bound .ensures) ∙ not-true _ (c .if1 .taken))
 
 returns-2 : tie.Need-returns-2
-returns-2 c = formed-low _ (sym (c .before .before .before .well-bound .ensures) ∙ not-false _ (c .before .before .if1 .left)) (c .if2 .taken)
+returns-2 c =
+    formed-low _
+    (sym (c .before .before .before .well-bound .ensures) ∙ not-false _ (c .before .before .if1 .left))
+    (c .if2 .taken)
 
 returns-3 : tie.Need-returns-3
-returns-3 c = formed-is _ (sym (c .before .before .before .before .well-bound .ensures) ∙ not-false _ (c .before .before .before .if1 .left)) (c .before .if2 .left)
+returns-3 c =
+    formed-is _
+    (sym (c .before .before .before .before .well-bound .ensures) ∙ not-false _ (c .before .before .before .if1 .left))
+    (c .before .if2 .left)
 
 pub well-formed-spec : {M : Type 1} → statement M
 well-formed-spec = tie.close (tie.spec well-bound-requires returns returns-2 returns-3)
