@@ -1,3 +1,4 @@
 pub mod Read
 pub mod Valid
 pub mod Shape
+pub mod Fills
