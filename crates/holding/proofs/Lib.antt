@@ -1,0 +1,4 @@
+pub mod Chains
+pub mod Frames
+pub mod Holes
+pub mod Reading
