@@ -50,7 +50,7 @@ module _ {A : Type 0} where
   records-refill (c ∷ pre) (atKey k cs last) u u′ = ap (λ l. c .1 .places ++ l) (records-refill pre (atKey k cs last) u u′)
   records-refill (c ∷ pre) atEnd u u′ = ap (λ l. c .1 .places ++ l) (records-refill pre atEnd u u′)
 
-  every-hole : (P : A → Type 0) (pre : List (A × Key)) (post : Post A) (u : A) → EveryKid P (fillKids pre post u) (fillLast post u) → P u
+  pub every-hole : (P : A → Type 0) (pre : List (A × Key)) (post : Post A) (u : A) → EveryKid P (fillKids pre post u) (fillLast post u) → P u
   every-hole P [] (atKey k cs last) u g = g .0
   every-hole P [] atEnd u g = g
   every-hole P (c ∷ pre) (atKey k cs last) u g = every-hole P pre (atKey k cs last) u (g .1)

@@ -1,3 +1,5 @@
 pub mod Listings
 pub mod Parts
 pub mod Fills
+pub mod Facts
+pub mod Small
