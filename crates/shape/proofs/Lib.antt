@@ -1,0 +1,11 @@
+pub mod Steps
+pub mod Turns
+pub mod Flat
+pub mod Follow
+pub mod Filling
+pub mod Down
+pub mod Order
+pub mod Once
+pub mod Places
+pub mod Whole
+pub mod Shapely
