@@ -1,0 +1,10 @@
+pub mod Ways
+pub mod Turns
+pub mod Counts
+pub mod Chains
+pub mod Reading
+pub mod Tested
+pub mod Claimed
+pub mod Once
+pub mod Small
+pub mod Decides
