@@ -1,0 +1,44 @@
+// Decides whether an image is valid, exactly and of any words: its shape, then its regions, then its lists; each part leans on the ones before.
+ghost use mathlib.Core.Path.{_≡_};
+ghost use mathlib.Core.Bool.{true, false};
+ghost use Prim.Native.Nat.{ℕ, _<_};
+ghost use lib.ListN.{getD};
+ghost use Rattle.regions.specs.Sets.{heldBy};
+ghost use Rattle.image.specs.Read.{setOf};
+ghost use Rattle.image.specs.Valid.{valid};
+ghost use Rattle.audit.specs.Report.{Reports};
+
+// Whether the image is valid; and, where it is, how many regions each account holds, so that a save need not count again.
+pub struct Report {
+    pub ok: bool,
+    pub held: [u32; 16],
+}
+
+fn refused() -> Report
+    ensures { λ r. ⌜ r .ok ≡ false ⌝ }
+{
+    Report {
+        ok: false,
+        held: [0u32; 16],
+    }
+}
+
+pub fn audit(img: &[u32]) -> Report
+    ensures { λ r. ⌜ Reports (now (img .entry)) (r .ok) (r .held) ⌝ }
+{
+    if !shape::shaped(img) {
+        return refused();
+    }
+    let c = census::take_census(img);
+    let held = c.held;
+    if !c.ok {
+        return refused();
+    }
+    if !stablists::lists_right(img) {
+        return refused();
+    }
+    Report {
+        ok: true,
+        held,
+    }
+}

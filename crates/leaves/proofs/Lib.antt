@@ -1,0 +1,6 @@
+pub mod Walks
+pub mod Whiles
+pub mod Rows
+pub mod Parts
+pub mod Finds
+pub mod Turns

@@ -1,0 +1,5 @@
+pub mod Runs
+pub mod Items
+pub mod Read
+pub mod Leaves
+pub mod Inners

@@ -1,0 +1,5 @@
+pub mod Turns
+pub mod Kept
+pub mod Frames
+pub mod Places
+pub mod Taken

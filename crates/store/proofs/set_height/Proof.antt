@@ -1,0 +1,20 @@
+-- `store::set_height` meets its contract: one word is written.
+-- Assumes nothing.
+use borrow.Author.Needs.{needs}
+use mathlib.Core.Path.{refl}
+use Rattle.store.specs.Store.{setHeight}
+use Rattle.store.proofs.set_height.Statement.{statement}
+use Rattle.store.proofs.set_height.Tie as tie
+
+slice-write-img : tie.Need-slice-write-img
+slice-write-img c = search needs
+
+same-length : tie.Need-same-length
+same-length c = search needs
+
+returns : tie.Need-returns
+unfolding setHeight
+returns c = refl
+
+pub set-height-spec : {M : Type 1} → statement M
+set-height-spec = tie.close (tie.spec slice-write-img same-length returns)

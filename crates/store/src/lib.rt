@@ -1,0 +1,121 @@
+// The writers of an image's words: a page or a stab record at its place, a place given back, the header; and the search for a free place.
+// What a page holds is worked out by value (crate pagework), so these are the only stores into an image that save and delete make.
+ghost use mathlib.Core.Path.{_≡_};
+ghost use Prim.Native.Nat.{_≤_};
+ghost use lib.ListN.{length};
+ghost use Rattle.pages.specs.Layout.{pageOf, pageUsed, recordUsed};
+ghost use Rattle.store.specs.Store.{putPage, freePage, putRecord, setNext, freeRecord, setRoot, setHeight, FirstFree};
+use regions::Region;
+
+// The 57 words of page p, by value.
+pub fn load_page(img: &[u32], p: u32) -> [u32; 57]
+    requires { ⌜ length (now img) ≡ 12288 ⌝ }
+    requires { ⌜ (1 ≤ p) × (p ≤ 160) ⌝ }
+    ensures { λ r. ⌜ r ≡ pageOf (now (img .entry)) p ⌝ }
+{
+    let b = 57 * words::wide(p);
+    let mut ws = [0u32; 57];
+    let mut i: usize = 0;
+    while i < 57 {
+        ws[i] = img[b + i];
+        i += 1;
+    }
+    ws
+}
+
+// All 57 words of page p.
+pub fn store_page(img: &mut [u32], p: u32, ws: [u32; 57])
+    requires { ⌜ length (now img) ≡ 12288 ⌝ }
+    requires { ⌜ (1 ≤ p) × (p ≤ 160) ⌝ }
+    ensures { λ _. ⌜ now (img .exit) ≡ putPage (now (img .entry)) p ws ⌝ }
+{
+    let b = 57 * words::wide(p);
+    let mut i: usize = 0;
+    while i < 57 {
+        img[b + i] = ws[i];
+        i += 1;
+    }
+}
+
+// Gives page p back: only its mark says that it is in use.
+pub fn free_page(img: &mut [u32], p: u32)
+    requires { ⌜ length (now img) ≡ 12288 ⌝ }
+    requires { ⌜ (1 ≤ p) × (p ≤ 160) ⌝ }
+    ensures { λ _. ⌜ now (img .exit) ≡ freePage (now (img .entry)) p ⌝ }
+{
+    img[57 * words::wide(p)] = 0;
+}
+
+// Stab record q: a region, and the record behind it in its list.
+pub fn put_record(img: &mut [u32], q: u32, r: Region, next: u32)
+    requires { ⌜ length (now img) ≡ 12288 ⌝ }
+    requires { ⌜ (1 ≤ q) × (q ≤ 500) ⌝ }
+    ensures { λ _. ⌜ now (img .exit) ≡ putRecord (now (img .entry)) q r next ⌝ }
+{
+    let b = 9177 + 6 * words::wide(q);
+    img[b] = r.start;
+    img[b + 1] = r.end;
+    img[b + 2] = r.level;
+    img[b + 3] = r.reference;
+    img[b + 4] = next;
+}
+
+// Links another record behind q.
+pub fn set_next(img: &mut [u32], q: u32, next: u32)
+    requires { ⌜ length (now img) ≡ 12288 ⌝ }
+    requires { ⌜ (1 ≤ q) × (q ≤ 500) ⌝ }
+    ensures { λ _. ⌜ now (img .exit) ≡ setNext (now (img .entry)) q next ⌝ }
+{
+    img[9177 + 6 * words::wide(q) + 4] = next;
+}
+
+// Gives record q back: no region ends at 0, so that end says it.
+pub fn free_record(img: &mut [u32], q: u32)
+    requires { ⌜ length (now img) ≡ 12288 ⌝ }
+    requires { ⌜ (1 ≤ q) × (q ≤ 500) ⌝ }
+    ensures { λ _. ⌜ now (img .exit) ≡ freeRecord (now (img .entry)) q ⌝ }
+{
+    img[9177 + 6 * words::wide(q) + 1] = 0;
+}
+
+pub fn set_root(img: &mut [u32], p: u32)
+    requires { ⌜ length (now img) ≡ 12288 ⌝ }
+    ensures { λ _. ⌜ now (img .exit) ≡ setRoot (now (img .entry)) p ⌝ }
+{
+    img[0] = p;
+}
+
+pub fn set_height(img: &mut [u32], h: u32)
+    requires { ⌜ length (now img) ≡ 12288 ⌝ }
+    ensures { λ _. ⌜ now (img .exit) ≡ setHeight (now (img .entry)) h ⌝ }
+{
+    img[1] = h;
+}
+
+// The first free page, 0 where none is free.
+pub fn first_free_page(img: &[u32]) -> u32
+    ensures { λ r. ⌜ FirstFree (pageUsed (now (img .entry))) 160 r ⌝ }
+{
+    let mut p: u32 = 1;
+    while p <= 160 {
+        if pages::mark(img, p) == 0 {
+            return p;
+        }
+        p += 1;
+    }
+    0
+}
+
+// The first free stab record, 0 where none is free.
+pub fn first_free_record(img: &[u32]) -> u32
+    ensures { λ r. ⌜ FirstFree (recordUsed (now (img .entry))) 500 r ⌝ }
+{
+    let mut q: u32 = 1;
+    while q <= 500 {
+        if pages::record_end(img, q) == 0 {
+            return q;
+        }
+        q += 1;
+    }
+    0
+}
