@@ -34,7 +34,7 @@ use Rattle.stablists.proofs.Reading.{fills-root}
 use Rattle.stablists.proofs.Tested.{Tested, KeyRight, Right, root-filled, tree-tested}
 use Rattle.stablists.proofs.Claimed.{claim-two, claim-mono, Placed, claim-places, ListRead, lists-read}
 use Rattle.stablists.proofs.Once.{Holds, at-most, used-few, placed-of, of-placed}
-use Rattle.stablists.proofs.Small.{keys-small, ends-small}
+use Rattle.image.proofs.Small.{small-keys, small-ends}
 
 -- what comes of a test b and x records where n are used
 all-met : (b : Bool) (x n : ℕ) → ((outcome b x n) .ok && eqb ((outcome b x n) .left) 0) ≡ (b && eqb x n)
@@ -151,8 +151,8 @@ module _ (w : List ℕ) (small : (i : ℕ) → getD w i 0 < 4294967296) (s : T (
         second = second-rule;
         formed = and-left (all wellFormed rs) _ r6;
         nest = and-left (allPairs nested rs) _ (and-right (all wellFormed rs) _ r6);
-        keys = keys-small w small (depthOf w) (rootOf w);
-        ends = ends-small w small (depthOf w) (rootOf w);
+        keys = small-keys w small (depthOf w) (rootOf w);
+        ends = small-ends w small (depthOf w) (rootOf w);
       }
 
   decided : (testAt w (depthOf w) (rootOf w) 0 top && eqb (sizeAt w (depthOf w) (rootOf w) 0 top) (usedTo w recordCount)) ≡ listsRight w

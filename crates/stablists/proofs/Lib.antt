@@ -6,5 +6,4 @@ pub mod Reading
 pub mod Tested
 pub mod Claimed
 pub mod Once
-pub mod Small
 pub mod Decides
