@@ -1,1 +1,4 @@
 pub mod Opening
+pub mod Changes
+pub mod Searches
+pub mod Joins

@@ -6,6 +6,14 @@ ghost use lib.Seq.{sets};
 ghost use lib.Dec.{leb};
 ghost use Rattle.words.specs.Lists.{sum};
 ghost use Rattle.index.specs.Opening.{openedImage, OpensSet};
+use regions::Region;
+
+// The parent search's answer.
+pub enum Parent {
+    Refused(u32),
+    Nothing,
+    At(Region),
+}
 
 // Whether sixteen shares sum to at most 500. No sum is made that could pass 500, so none can wrap.
 fn shares_fit(shares: [u32; 16]) -> bool

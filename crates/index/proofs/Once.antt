@@ -1,0 +1,68 @@
+-- Each promise has one result: any two results that it allows are equal.
+-- Assumes nothing.
+use Prim.Native.Nat.{ℕ}
+use mathlib.Core.Path.{_≡_, refl, sym, ap, ap₂, _∙_}
+use mathlib.Core.Bool.{Bool, true, false}
+use mathlib.Core.List.{List, [], _∷_, head-eq-of-cons-eq}
+use lib.Dec.{eqb}
+use native.Mathlib.Omega.{arith}
+use Rattle.words.proofs.Tests.{by-test, eq-of, ne-of}
+use Rattle.regions.specs.declared.Region.{Region}
+use Rattle.regions.specs.declared.Kind.{Kind}
+use Rattle.image.specs.Read.{setOf}
+use Rattle.index.specs.Changes.{Saves, Deletes}
+use Rattle.index.specs.Searches.{FindsAncestors, parentNumber, parentFound, FindsParent, Lists}
+use Rattle.index.specs.Joins.{JoinsSets}
+use Rattle.index.specs.declared.Parent.{Parent}
+
+-- done or refused, by one number
+either-way : (m n : ℕ) {C : Type 0} → m ≡ n → ((m ≡ 0) → (n ≡ 0) → C) → ((m ≡ 0 → ⊥) → (n ≡ 0 → ⊥) → C) → C
+either-way m n e f g =
+    by-test (eqb m 0)
+    (λ t. let z = eq-of m 0 t in f z (sym e ∙ z))
+    (λ t. let z = ne-of m 0 t in g z (λ q. z (e ∙ q)))
+
+-- of saves and deletes the number and the meaning; a refusal fixes every word
+pub saves-once : (w : List ℕ) (a : ℕ) (r : Region) (m n : ℕ) (u v : List ℕ) → Saves w a r m u → Saves w a r n v → (m ≡ n) × (setOf u ≡ setOf v) × ((m ≡ 0 → ⊥) → u ≡ v)
+saves-once w a r m n u v x y =
+    let e : m ≡ n = x .number-is ∙ sym (y .number-is) in
+    (e,
+    either-way m n e (λ p q. x .done p .1 ∙ sym (y .done q .1)) (λ p q. ap setOf (x .refused p ∙ sym (y .refused q))),
+    (λ p. x .refused p ∙ sym (y .refused (λ q. p (e ∙ q)))))
+
+pub deletes-once : (w : List ℕ) (a s : ℕ) (m n : ℕ) (u v : List ℕ) → Deletes w a s m u → Deletes w a s n v → (m ≡ n) × (setOf u ≡ setOf v) × ((m ≡ 0 → ⊥) → u ≡ v)
+deletes-once w a s m n u v x y =
+    let e : m ≡ n = x .number-is ∙ sym (y .number-is) in
+    (e,
+    either-way m n e (λ p q. x .done p .1 ∙ sym (y .done q .1)) (λ p q. ap setOf (x .refused p ∙ sym (y .refused q))),
+    (λ p. x .refused p ∙ sym (y .refused (λ q. p (e ∙ q)))))
+
+pub ancestors-once : (w : List ℕ) (a p : ℕ) (out : List ℕ) (m n s t i j : ℕ) (u v : List ℕ) → FindsAncestors w a p out m s i u → FindsAncestors w a p out n t j v
+    → (m ≡ n) × (s ≡ t) × (i ≡ j) × (u ≡ v)
+ancestors-once w a p out m n s t i j u v x y =
+    let e : m ≡ n = x .number-is ∙ sym (y .number-is) in
+    either-way m n e
+    (λ c d. (e, x .done c .0 ∙ sym (y .done d .0), x .done c .1 ∙ sym (y .done d .1), x .done c .2 ∙ sym (y .done d .2)))
+    (λ c d. (e, x .refused c .0 ∙ sym (y .refused d .0), x .refused c .1 ∙ sym (y .refused d .1), x .refused c .2 ∙ sym (y .refused d .2)))
+
+-- the parent search's number and what it found
+pub parent-once : (w : List ℕ) (a p l : ℕ) (x y : Parent) → FindsParent w a p l x → FindsParent w a p l y → (parentNumber x ≡ parentNumber y) × (parentFound x ≡ parentFound y)
+parent-once w a p l x y f g =
+    let e : parentNumber x ≡ parentNumber y = f .number-is ∙ sym (g .number-is) in
+    (e, either-way (parentNumber x) (parentNumber y) e (λ c d. f .done c ∙ sym (g .done d)) (λ c d. f .refused c ∙ sym (g .refused d)))
+
+pub lists-once : (w : List ℕ) (a b e : ℕ) (rs : List Region) (out : List ℕ) (m n s t : ℕ) (i j : Bool) (u v : List ℕ) → Lists w a b e rs out m s i u → Lists w a b e rs out n t j v
+    → (m ≡ n) × (s ≡ t) × (i ≡ j) × (u ≡ v)
+lists-once w a b f rs out m n s t i j u v x y =
+    let e : m ≡ n = x .number-is ∙ sym (y .number-is) in
+    either-way m n e
+    (λ c d. (e, x .done c .0 ∙ sym (y .done d .0), x .done c .1 ∙ sym (y .done d .1), x .done c .2 ∙ sym (y .done d .2)))
+    (λ c d. (e, x .refused c .0 ∙ sym (y .refused d .0), x .refused c .1 ∙ sym (y .refused d .1), x .refused c .2 ∙ sym (y .refused d .2)))
+
+pub joins-once : (outer inner : List ℕ) (a : ℕ) (k : Kind) (out : List ℕ) (m n s t : ℕ) (u v : List ℕ) → JoinsSets outer inner a k out m s u → JoinsSets outer inner a k out n t v
+    → (m ≡ n) × (s ≡ t) × (u ≡ v)
+joins-once outer inner a k out m n s t u v x y =
+    let e : m ≡ n = x .number-is ∙ sym (y .number-is) in
+    either-way m n e
+    (λ c d. (e, x .done c .0 ∙ sym (y .done d .0), x .done c .1 ∙ sym (y .done d .1)))
+    (λ c d. (e, x .refused c .0 ∙ sym (y .refused d .0), x .refused c .1 ∙ sym (y .refused d .1)))
