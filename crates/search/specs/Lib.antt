@@ -1,0 +1,3 @@
+pub mod Tasks
+pub mod Tallies
+pub mod Parts

@@ -1,0 +1,50 @@
+-- What the parts of a search meet and look at in an image: a list of stab records, the lists of an inner page, a leaf.
+-- Assumes nothing.
+use Prim.Native.Nat.{ℕ}
+use mathlib.Core.List.{List, [], map}
+use Rattle.words.specs.Lists.{filter, takeWhile}
+use Rattle.regions.specs.Positions.{holds}
+use Rattle.regions.specs.declared.Region.{Region}
+use Rattle.pages.specs.Layout.{pageOf, fillOf}
+use Rattle.xrtree.specs.Tree.{Entry, Key, regionOf}
+use Rattle.xrtree.specs.Search.{looks, findKids, stepsKids, holdsFree}
+use Rattle.image.specs.Read.{entriesFrom, chain, recordRegion, keyAt, kidsFrom}
+
+-- the regions of at most n records from record q on; those from the head that hold p; how many are looked at
+abbrev pub recordsFrom : List ℕ → ℕ → ℕ → List Region
+recordsFrom w n q = map (recordRegion w) (chain n w q)
+
+abbrev pub heldFrom : List ℕ → ℕ → ℕ → ℕ → List Region
+heldFrom w p n q = takeWhile (holds p) (recordsFrom w n q)
+
+abbrev pub lookedFrom : List ℕ → ℕ → ℕ → ℕ → ℕ
+lookedFrom w p n q = looks p (recordsFrom w n q)
+
+-- key i of a page
+abbrev pub keyIn : List ℕ → ℕ → ℕ → Key
+keyIn w page i = keyAt w (pageOf w page) i
+
+-- of the m keys from key i on, with the words ws of their page: the search of their lists alone, which no child follows
+abbrev pub listsFrom : List ℕ → ℕ → List ℕ → ℕ → ℕ → List Region
+listsFrom w p ws i m = findKids (λ (c : ℕ). []) p (kidsFrom (λ c. c) w ws i m) 0
+
+abbrev pub listsLookedFrom : List ℕ → ℕ → List ℕ → ℕ → ℕ → ℕ
+listsLookedFrom w p ws i m = stepsKids (λ (c : ℕ). 0) p (kidsFrom (λ c. c) w ws i m) 0
+
+-- of a whole inner page
+abbrev pub listsMet : List ℕ → ℕ → ℕ → List Region
+listsMet w p page = listsFrom w p (pageOf w page) 0 (fillOf (pageOf w page))
+
+abbrev pub listsLooked : List ℕ → ℕ → ℕ → ℕ
+listsLooked w p page = listsLookedFrom w p (pageOf w page) 0 (fillOf (pageOf w page))
+
+-- of some entries of a leaf, and of the m from entry i on
+abbrev pub entriesMet : ℕ → List Entry → List Region
+entriesMet p es = map regionOf (filter (holdsFree p) es)
+
+abbrev pub ownFrom : ℕ → List ℕ → ℕ → ℕ → List Region
+ownFrom p ws i m = entriesMet p (entriesFrom ws i m)
+
+-- of a whole leaf
+abbrev pub leafMet : List ℕ → ℕ → ℕ → List Region
+leafMet w p page = ownFrom p (pageOf w page) 0 (fillOf (pageOf w page))
