@@ -1,3 +1,4 @@
 pub mod Opened
 pub mod Empty
 pub mod Once
+pub mod Answers

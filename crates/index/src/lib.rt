@@ -5,8 +5,18 @@ ghost use lib.ListN.{length, set, replicate};
 ghost use lib.Seq.{sets};
 ghost use lib.Dec.{leb};
 ghost use Rattle.words.specs.Lists.{sum};
+ghost use Rattle.image.specs.Valid.{valid};
 ghost use Rattle.index.specs.Opening.{openedImage, OpensSet};
+ghost use Rattle.index.specs.Searches.{FindsAncestors, FindsParent};
 use regions::Region;
+use search::Found;
+
+// The ancestor search's answer: its number, how many ancestors there are, and the steps it made.
+pub struct Ancestors {
+    pub number: u32,
+    pub total: usize,
+    pub steps: usize,
+}
 
 // The parent search's answer.
 pub enum Parent {
@@ -71,4 +81,55 @@ pub fn open_set(img: &mut [u32], shares: [u32; 16]) -> u32
     img[1] = 1;
     img[57] = 1;
     0
+}
+
+// Whether the image is valid. Every call but an opening asks this first.
+fn is_valid(img: &[u32]) -> bool
+    ensures { λ r. ⌜ r ≡ valid (now (img .entry)) ⌝ }
+{
+    let report = audit::audit(img);
+    report.ok
+}
+
+// The ancestors of position p, outermost first: as many as fit, their total, and the steps that the search made.
+pub fn find_ancestors(img: &[u32], account: u32, p: u32, out: &mut [u32]) -> Ancestors
+    ensures { λ r. ⌜ FindsAncestors (now (img .entry)) account p (now (out .entry)) (r .number) (r .total) (r .steps) (now (out .exit)) ⌝ }
+{
+    if !is_valid(img) {
+        return Ancestors {
+            number: 1,
+            total: 0,
+            steps: 0,
+        };
+    }
+    if regions::foreign(account, p) {
+        return Ancestors {
+            number: 3,
+            total: 0,
+            steps: 0,
+        };
+    }
+    let t = search::ancestors(img, p, out);
+    Ancestors {
+        number: 0,
+        total: t.total,
+        steps: t.steps,
+    }
+}
+
+// The innermost ancestor of p whose level is one less than the given one, or none.
+pub fn find_parent(img: &[u32], account: u32, p: u32, level: u32) -> Parent
+    ensures { λ r. ⌜ FindsParent (now (img .entry)) account p level r ⌝ }
+{
+    if !is_valid(img) {
+        return Parent::Refused(1);
+    }
+    if regions::foreign(account, p) {
+        return Parent::Refused(3);
+    }
+    let found = search::parent(img, p, level);
+    let Found::At(r) = found else {
+        return Parent::Nothing;
+    };
+    Parent::At(r)
 }

@@ -1,0 +1,65 @@
+-- The ways out of the searches: IMAGE, then the call's own numbers, then what is found.
+-- Assumes nothing.
+use Prim.Native.Nat.{ℕ}
+use mathlib.Core.Path.{_≡_, refl, sym, ap, _∙_}
+use mathlib.Core.Bool.{Bool, true, false, _&&_, cond}
+use mathlib.Core.List.{List, [], _∷_}
+use lib.ListN.{length}
+use native.Mathlib.Omega.{arith}
+use Rattle.words.specs.Lists.{firstNo}
+use Rattle.regions.specs.Numbers.{imageFirst}
+use Rattle.regions.specs.Calls.{regionWidth, regionWords, written, countWritten, moreRemain, foreign, pointNo, boundsNo, ancestors, parent}
+use Rattle.regions.specs.declared.Region.{Region}
+use Rattle.image.specs.Read.{setOf}
+use Rattle.image.specs.Valid.{valid}
+use Rattle.search.specs.Tallies.{foundList}
+use Rattle.search.specs.declared.Found.{Found}
+use Rattle.search.specs.declared.Found.the-variants.{Nothing as NotFound, At as FoundAt}
+use Rattle.index.specs.Searches.{stepCount, FindsAncestors, parentNumber, parentFound, FindsParent, Lists}
+use Rattle.index.specs.declared.Parent.{Parent}
+use Rattle.index.specs.declared.Parent.the-variants.{Refused, Nothing, At}
+
+-- IMAGE comes before all else, and only where the image is not valid
+pub image-number : (ok : Bool) (n : ℕ) → ok ≡ false → 1 ≡ imageFirst ok n
+image-number ok n e = rw e
+
+pub own-number : (ok : Bool) (m n : ℕ) → ok ≡ true → m ≡ n → m ≡ imageFirst ok n
+own-number ok m n e f = rw e f
+
+pub point-foreign : (a p : ℕ) → foreign a p ≡ true → 3 ≡ pointNo a p
+unfolding pointNo firstNo
+point-foreign a p e = rw e
+
+pub point-own : (a p : ℕ) → foreign a p ≡ false → 0 ≡ pointNo a p
+unfolding pointNo firstNo
+point-own a p e = rw e
+
+-- ANCESTORS
+pub ancestors-refused : (w : List ℕ) (a p : ℕ) (out : List ℕ) (n : ℕ) → (n ≡ 0 → ⊥) → n ≡ imageFirst (valid w) (pointNo a p) → FindsAncestors w a p out n 0 0 out
+ancestors-refused w a p out n h e = record { number-is = e; refused = λ z. (refl, refl, refl); done = λ z. absurd (h z) }
+
+pub ancestors-found : (w : List ℕ) (a p : ℕ) (out out′ : List ℕ) (total made : ℕ) → valid w ≡ true → foreign a p ≡ false → total ≡ length (ancestors p (setOf w)) → made ≡ stepCount w p
+    → out′ ≡ written regionWords regionWidth out (ancestors p (setOf w)) → FindsAncestors w a p out 0 total made out′
+ancestors-found w a p out out′ total made v f t s o =
+    record { number-is = own-number (valid w) 0 (pointNo a p) v (point-own a p f); refused = λ z. absurd (z refl); done = λ z. (t, s, o) }
+
+-- PARENT: what the search found, by its two cases
+pub found-none : (f : Found) (xs : List Region) → f ≡ NotFound → foundList f ≡ xs → [] ≡ xs
+unfolding foundList
+found-none f xs e g = ap foundList (sym e) ∙ g
+
+pub found-at : (f : Found) (r : Region) (xs : List Region) → f ≡ FoundAt r → foundList f ≡ xs → r ∷ [] ≡ xs
+unfolding foundList
+found-at f r xs e g = ap foundList (sym e) ∙ g
+
+pub parent-refused : (w : List ℕ) (a p l n : ℕ) → (n ≡ 0 → ⊥) → n ≡ imageFirst (valid w) (pointNo a p) → FindsParent w a p l (Refused n)
+unfolding parentNumber parentFound
+parent-refused w a p l n h e = record { number-is = e; refused = λ z. refl; done = λ z. absurd (h z) }
+
+pub parent-none : (w : List ℕ) (a p l : ℕ) → valid w ≡ true → foreign a p ≡ false → [] ≡ parent p l (setOf w) → FindsParent w a p l Nothing
+unfolding parentNumber parentFound
+parent-none w a p l v f e = record { number-is = own-number (valid w) 0 (pointNo a p) v (point-own a p f); refused = λ z. absurd (z refl); done = λ z. e }
+
+pub parent-at : (w : List ℕ) (a p l : ℕ) (r : Region) → valid w ≡ true → foreign a p ≡ false → r ∷ [] ≡ parent p l (setOf w) → FindsParent w a p l (At r)
+unfolding parentNumber parentFound
+parent-at w a p l r v f e = record { number-is = own-number (valid w) 0 (pointNo a p) v (point-own a p f); refused = λ z. absurd (z refl); done = λ z. e }
