@@ -8,6 +8,7 @@ use lib.ListN.{length}
 use native.Mathlib.Omega.{arith}
 use Rattle.words.specs.Lists.{firstNo}
 use Rattle.regions.specs.Numbers.{imageFirst}
+use Rattle.regions.specs.Positions.{wellBound}
 use Rattle.regions.specs.Calls.{regionWidth, regionWords, written, countWritten, moreRemain, foreign, pointNo, boundsNo, ancestors, parent}
 use Rattle.regions.specs.declared.Region.{Region}
 use Rattle.image.specs.Read.{setOf}
@@ -63,3 +64,27 @@ parent-none w a p l v f e = record { number-is = own-number (valid w) 0 (pointNo
 pub parent-at : (w : List ℕ) (a p l : ℕ) (r : Region) → valid w ≡ true → foreign a p ≡ false → r ∷ [] ≡ parent p l (setOf w) → FindsParent w a p l (At r)
 unfolding parentNumber parentFound
 parent-at w a p l r v f e = record { number-is = own-number (valid w) 0 (pointNo a p) v (point-own a p f); refused = λ z. absurd (z refl); done = λ z. e }
+
+-- DESCENDANTS AND CHILDREN
+pub bounds-wrong : (a s e : ℕ) → wellBound s e ≡ false → 2 ≡ boundsNo a s e
+unfolding boundsNo firstNo
+bounds-wrong a s e h = rw h
+
+pub bounds-foreign : (a s e : ℕ) → wellBound s e ≡ true → foreign a s ≡ true → 3 ≡ boundsNo a s e
+unfolding boundsNo firstNo
+bounds-foreign a s e h f = rw (h, f)
+
+pub bounds-own : (a s e : ℕ) → wellBound s e ≡ true → foreign a s ≡ false → 0 ≡ boundsNo a s e
+unfolding boundsNo firstNo
+bounds-own a s e h f = rw (h, f)
+
+pub image-right : (ok : Bool) (n : ℕ) → 0 ≡ imageFirst ok n → ok ≡ true
+image-right true n e = refl
+image-right false n e = absurd (let z : _≡_ {A = ℕ} 0 1 = e in omega arith)
+
+pub lists-refused : (w : List ℕ) (a s e : ℕ) (rs : List Region) (out : List ℕ) (n : ℕ) → (n ≡ 0 → ⊥) → n ≡ imageFirst (valid w) (boundsNo a s e) → Lists w a s e rs out n 0 false out
+lists-refused w a s e rs out n h f = record { number-is = f; refused = λ z. (refl, refl, refl); done = λ z. absurd (h z) }
+
+pub lists-found : (w : List ℕ) (a s e : ℕ) (rs : List Region) (out out′ : List ℕ) (n count : ℕ) (more : Bool) → n ≡ 0 → n ≡ imageFirst (valid w) (boundsNo a s e)
+    → count ≡ countWritten regionWidth out rs → more ≡ moreRemain regionWidth out rs → out′ ≡ written regionWords regionWidth out rs → Lists w a s e rs out 0 count more out′
+lists-found w a s e rs out out′ n count more z f c m o = record { number-is = sym z ∙ f; refused = λ h. absurd (h refl); done = λ h. (c, m, o) }

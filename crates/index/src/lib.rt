@@ -5,9 +5,11 @@ ghost use lib.ListN.{length, set, replicate};
 ghost use lib.Seq.{sets};
 ghost use lib.Dec.{leb};
 ghost use Rattle.words.specs.Lists.{sum};
+ghost use Rattle.regions.specs.Numbers.{imageFirst};
+ghost use Rattle.regions.specs.Calls.{boundsNo};
 ghost use Rattle.image.specs.Valid.{valid};
 ghost use Rattle.index.specs.Opening.{openedImage, OpensSet};
-ghost use Rattle.index.specs.Searches.{FindsAncestors, FindsParent};
+ghost use Rattle.index.specs.Searches.{FindsAncestors, FindsParent, FindsDescendants, FindsChildren};
 use regions::Region;
 use search::Found;
 
@@ -16,6 +18,13 @@ pub struct Ancestors {
     pub number: u32,
     pub total: usize,
     pub steps: usize,
+}
+
+// A descendant or child search's answer: its number, how many regions were written, and whether more remain.
+pub struct Listed {
+    pub number: u32,
+    pub count: usize,
+    pub more: bool,
 }
 
 // The parent search's answer.
@@ -132,4 +141,75 @@ pub fn find_parent(img: &[u32], account: u32, p: u32, level: u32) -> Parent
         return Parent::Nothing;
     };
     Parent::At(r)
+}
+
+// IMAGE, REGION or ACCOUNT of a search by bounds; 0 where it may go on.
+fn bounds_number(img: &[u32], account: u32, start: u32, end: u32) -> u32
+    ensures { λ r. ⌜ r ≡ imageFirst (valid (now (img .entry))) (boundsNo account start end) ⌝ }
+{
+    if !is_valid(img) {
+        return 1;
+    }
+    if !regions::well_bound(start, end) {
+        return 2;
+    }
+    if regions::foreign(account, start) {
+        return 3;
+    }
+    0
+}
+
+// The regions that start strictly inside the bounds and behind `after`, ascending, as many as fit.
+pub fn find_descendants(
+    img: &[u32],
+    account: u32,
+    start: u32,
+    end: u32,
+    after: u32,
+    out: &mut [u32],
+) -> Listed
+    ensures { λ r. ⌜ FindsDescendants (now (img .entry)) account start end after (now (out .entry)) (r .number) (r .count) (r .more) (now (out .exit)) ⌝ }
+{
+    let number = bounds_number(img, account, start, end);
+    if number != 0 {
+        return Listed {
+            number,
+            count: 0,
+            more: false,
+        };
+    }
+    let l = inward::descendants(img, start, end, after, out);
+    Listed {
+        number: 0,
+        count: l.count,
+        more: l.more,
+    }
+}
+
+// The same, of those whose level is exactly one more than the given one.
+pub fn find_children(
+    img: &[u32],
+    account: u32,
+    start: u32,
+    end: u32,
+    level: u32,
+    after: u32,
+    out: &mut [u32],
+) -> Listed
+    ensures { λ r. ⌜ FindsChildren (now (img .entry)) account start end level after (now (out .entry)) (r .number) (r .count) (r .more) (now (out .exit)) ⌝ }
+{
+    let number = bounds_number(img, account, start, end);
+    if number != 0 {
+        return Listed {
+            number,
+            count: 0,
+            more: false,
+        };
+    }
+    let l = inward::children(img, start, end, level, after, out);
+    Listed {
+        number: 0,
+        count: l.count,
+        more: l.more,
+    }
 }
