@@ -1,10 +1,10 @@
 -- A cursor and the regions before it: what a step hands of them, where there are none, and those before the cursors that `seek` and `first` answer.
 -- Assumes nothing.
-use Prim.Native.Nat.{ℕ, suc, _<_, _≤_}
+use Prim.Native.Nat.{ℕ, _<_}
 use mathlib.Core.Path.{_≡_, refl, sym, ap, _∙_, subst}
 use mathlib.Core.List.{List, [], _∷_, map}
 use lib.Dec.{T}
-use lib.ListN.{length}
+use lib.ListN.{length, length-map}
 use native.Mathlib.Omega.{arith}
 use Rattle.words.specs.Lists.{filter, dropWhile}
 use Rattle.words.proofs.Listed.{pairs-kept}
@@ -26,12 +26,9 @@ use Rattle.leaves.proofs.Walks.{ready-few, stands-end, stands-step}
 use Rattle.leaves.proofs.Finds.{entries-regions, behind-regions}
 use Rattle.inward.specs.Faces.{Faces}
 
-never : (s : Step) (e : Entry) (on : Cursor) → s ≡ End → s ≡ Next e on → ⊥
+-- a step hands an entry, or it is the end
+pub never : (s : Step) (e : Entry) (on : Cursor) → s ≡ End → s ≡ Next e on → ⊥
 never s e on a b = let z : _≡_ {A = ℕ} 0 1 = cc in omega arith
-
-long-map : {A B : Type 0} (f : A → B) (xs : List A) → length (map f xs) ≡ length xs
-long-map f [] = refl
-long-map f (x ∷ xs) = ap suc (long-map f xs)
 
 module _ (w : List ℕ) {c : Cursor} {rs : List Region} (f : Faces w c rs) where
   -- it may be stepped
@@ -39,7 +36,7 @@ module _ (w : List ℕ) {c : Cursor} {rs : List Region} (f : Faces w c rs) where
   faces-few = ready-few w c (f .stands .ready)
 
   pub faces-long : length (left w c) ≡ length rs
-  faces-long = ap length (f .stands .ahead) ∙ sym (long-map tree.regionOf (f .entries)) ∙ ap length (f .regions)
+  faces-long = ap length (f .stands .ahead) ∙ sym (length-map (f .entries) tree.regionOf) ∙ ap length (f .regions)
 
 -- A STEP hands the first of the regions, and the cursor that it hands has the others before it
 pub record Onward (w : List ℕ) (rs : List Region) (e : Entry) (on : Cursor) : Type 0 where

@@ -1,19 +1,19 @@
 -- The walk along the leaves: a turn, and each way out; and which regions it lists.
 -- Assumes nothing.
-use Prim.Native.Nat.{ℕ, suc, _+_, _<_, _≤_, max}
+use Prim.Native.Nat.{ℕ, _+_, _<_, _≤_, max}
 use mathlib.Core.Path.{_≡_, refl, sym, ap, _∙_}
 use mathlib.Core.Bool.{Bool, true, false, _&&_}
 use mathlib.Core.List.{List, [], _∷_, _++_}
 use lib.Dec.{T}
 use lib.ListN.{length, length-append}
 use native.Mathlib.Omega.{arith}
-use Rattle.words.specs.Lists.{filter, All}
-use Rattle.words.proofs.Tests.{by-test, lt-yes, lt-no, and-false, and-true}
+use Rattle.words.specs.Lists.{filter}
+use Rattle.words.proofs.Tests.{by-test, lt-yes, lt-no, and-false}
 use Rattle.words.proofs.Listed.{all-mono, all-every, filter-all, filter-none, filter-filter, filter-both}
 use Rattle.words.proofs.Says.{Says, and-says, lt-says}
 use Rattle.regions.specs.Positions.{inside, isBelow}
 use Rattle.regions.specs.Sets.{Set, startsBehind}
-use Rattle.regions.specs.Calls.{room, written, countWritten, moreRemain, regionWords, descendants, children}
+use Rattle.regions.specs.Calls.{room, written, countWritten, regionWords, descendants, children}
 use Rattle.regions.specs.declared.Region.{Region}
 use Rattle.regions.proofs.Fits.{count-is, more-is}
 use Rattle.regions.proofs.Means.{inside-says, behind-says}
@@ -28,7 +28,7 @@ use Rattle.inward.specs.declared.Wanted.{Wanted}
 use Rattle.inward.specs.declared.Wanted.the-variants.{All as Every, Below}
 use Rattle.inward.specs.Lists.{wants, asked, Listed}
 use Rattle.inward.specs.Faces.{Faces}
-use Rattle.inward.proofs.Faces.{Onward, faces-on, faces-end}
+use Rattle.inward.proofs.Faces.{faces-on, faces-end}
 
 -- ONE REGION, wanted or not
 pub wants-all : (v : Wanted) (r : Region) → v ≡ Every → true ≡ wants v r

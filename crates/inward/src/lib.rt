@@ -92,7 +92,14 @@ pub fn descendants(img: &[u32], start: u32, end: u32, after: u32, out: &mut [u32
 }
 
 // CHILD SEARCH of a valid image: of the descendants those one level below.
-pub fn children(img: &[u32], start: u32, end: u32, level: u32, after: u32, out: &mut [u32]) -> Listing
+pub fn children(
+    img: &[u32],
+    start: u32,
+    end: u32,
+    level: u32,
+    after: u32,
+    out: &mut [u32],
+) -> Listing
     requires { ⌜ T (valid (now img)) ⌝ }
     ensures { λ r. ⌜ Listed (children start end level after (setOf (now (img .entry)))) (now (out .entry)) (now (out .exit)) r ⌝ }
 {

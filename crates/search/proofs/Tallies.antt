@@ -37,33 +37,37 @@ unfolding filter
 filter-short p [] = omega arith
 filter-short p (x ∷ xs) = let n = filter-short p xs in by-test (p x) (λ h. rw h (omega arith)) (λ h. rw h (omega arith))
 
--- one region more
+-- one region met and not taken, one taken
+abbrev pub passed : Tally → Tally
+passed t = record { total = t .total; met = t .met + 1; steps = t .steps; last = t .last }
+
 abbrev pub counted : Tally → Region → Tally
-counted t a = record { total = t .total + 1; steps = t .steps; last = At a }
+counted t a = record { total = t .total + 1; met = t .met + 1; steps = t .steps; last = At a }
 
 module _ {task : Task} {out : List ℕ} {t : Tally} where
-  pub tallied-short : {met : List Region} {n : ℕ} {out′ : List ℕ} {t′ : Tally} → Tallied task out t met n out′ t′ → t′ .total ≤ t .total + length met
-  tallied-short {met} r = omega (arith, r .total, filter-short (accepts task) met)
+  pub tallied-short : {rs : List Region} {n : ℕ} {out′ : List ℕ} {t′ : Tally} → Tallied task out t rs n out′ t′ → t′ .total ≤ t .total + length rs
+  tallied-short {rs} r = omega (arith, r .total, filter-short (accepts task) rs)
 
   -- NOTHING MET
   pub tallied-none : Tallied task out t [] 0 out t
   unfolding filter lastFound
-  tallied-none = record { words = sym (from-none (taskWords task) 4 (t .total) out); total = omega arith; steps = omega arith; last = refl }
+  tallied-none = record { words = sym (from-none (taskWords task) 4 (t .total) out); total = omega arith; met = omega arith; steps = omega arith; last = refl }
 
   pub tallied-step : {t′ : Tally} → t′ ≡ stepped t → Tallied task out t [] 1 out t′
   unfolding filter lastFound
   tallied-step e =
       subst (λ (u : Tally). Tallied task out t [] 1 out u) (sym e)
-      (record { words = sym (from-none (taskWords task) 4 (t .total) out); total = omega arith; steps = refl; last = refl })
+      (record { words = sym (from-none (taskWords task) 4 (t .total) out); total = omega arith; met = omega arith; steps = refl; last = refl })
 
   -- ONE REGION MET: not asked for, or taken
-  pub tallied-pass : {a : Region} → accepts task a ≡ false → Tallied task out t (a ∷ []) 0 out t
+  pub tallied-pass : {a : Region} → accepts task a ≡ false → Tallied task out t (a ∷ []) 0 out (passed t)
   unfolding filter lastFound
   tallied-pass {a} h =
       let e : taken task (a ∷ []) ≡ [] = filter-no (accepts task) a [] h in
       record {
         words = rw e (sym (from-none (taskWords task) 4 (t .total) out));
         total = rw e (omega arith);
+        met = refl;
         steps = omega arith;
         last = rw e;
       }
@@ -71,7 +75,7 @@ module _ {task : Task} {out : List ℕ} {t : Tally} where
   pub tallied-take : {a : Region} {out′ : List ℕ} → accepts task a ≡ true → out′ ≡ writtenFrom (taskWords task) 4 (t .total) out (a ∷ [])
       → Tallied task out t (a ∷ []) 0 out′ (counted t a)
   unfolding filter lastFound
-  tallied-take {a} h w = record { words = rw h w; total = rw h; steps = omega arith; last = rw h }
+  tallied-take {a} h w = record { words = rw h w; total = rw h; met = refl; steps = omega arith; last = rw h }
 
   -- the same regions, said otherwise
   pub tallied-same : {xs ys : List Region} {n : ℕ} {out′ : List ℕ} {t′ : Tally} → xs ≡ ys → Tallied task out t xs n out′ t′ → Tallied task out t ys n out′ t′
@@ -85,19 +89,23 @@ module _ {task : Task} {out : List ℕ} {t : Tally} where
       record {
         words = rw (e, from-append (taskWords task) 4 (words-wide task) (t .total) out (taken task xs) (taken task ys), ← r .words, ← r .total) (s .words);
         total = rw (e, length-append (taken task xs) (taken task ys)) (omega (arith, r .total, s .total));
+        met = omega (arith, r .met, s .met, length-append xs ys);
         steps = omega (arith, r .steps, s .steps);
         last = rw (e, last-append (t .last) (taken task xs) (taken task ys), ← r .last) (s .last);
       }
 
 -- ONE ANSWER: two that are tallied alike are the same
-pub tallied-one : {task : Task} {out out′ out″ : List ℕ} {t t′ t″ : Tally} {met : List Region} {n : ℕ} → Tallied task out t met n out′ t′ → Tallied task out t met n out″ t″ → (out′ ≡ out″) × (t′ ≡ t″)
+pub tallied-one : {task : Task} {out out′ out″ : List ℕ} {t t′ t″ : Tally} {rs : List Region} {n : ℕ} → Tallied task out t rs n out′ t′ → Tallied task out t rs n out″ t″ → (out′ ≡ out″) × (t′ ≡ t″)
 tallied-one {t′ = t′} {t″ = t″} r s = (
   r .words ∙ sym (s .words),
-  (λ i. record { total = total i; steps = steps i; last = last i }),
+  (λ i. record { total = total i; met = met i; steps = steps i; last = last i }),
 )
   where
     total : t′ .total ≡ t″ .total
     total = r .total ∙ sym (s .total)
+
+    met : t′ .met ≡ t″ .met
+    met = r .met ∙ sym (s .met)
 
     steps : t′ .steps ≡ t″ .steps
     steps = r .steps ∙ sym (s .steps)
@@ -110,10 +118,11 @@ pub record Leads (task : Task) (out₀ : List ℕ) (t₀ : Tally) (whole : List 
   pub on : (out′ : List ℕ) (t′ : Tally) → Tallied task out t rest n out′ t′ → Tallied task out₀ t₀ whole all out′ t′
   pub long : length out ≡ length out₀
   pub total : t .total ≤ t₀ .total + most
+  pub met : t .met ≤ t₀ .met + most
   pub steps : t .steps ≤ t₀ .steps + most
 
 pub leads-all : {task : Task} {out : List ℕ} {t : Tally} {whole : List Region} {all : ℕ} → Leads task out t whole all out t whole all 0
-leads-all = record { on = λ out′ t′ r. r; long = refl; total = omega arith; steps = omega arith }
+leads-all = record { on = λ out′ t′ r. r; long = refl; total = omega arith; met = omega arith; steps = omega arith }
 
 module _ {task : Task} {out₀ out : List ℕ} {t₀ t : Tally} {whole rest : List Region} {all n most : ℕ} (l : Leads task out₀ t₀ whole all out t rest n most) where
   -- a part of it was met
@@ -124,6 +133,7 @@ module _ {task : Task} {out₀ out : List ℕ} {t₀ t : Tally} {whole rest : Li
         on = λ out′ t′ s. l .on out′ t′ (rw (e, f) (tallied-then r s));
         long = ap length (r .words) ∙ from-long (taskWords task) 4 (t .total) out (taken task some) ∙ l .long;
         total = omega (arith, l .total, tallied-short r);
+        met = omega (arith, l .met, r .met);
         steps = omega (arith, l .steps, r .steps);
       }
 

@@ -40,6 +40,7 @@ all-found {out} {out′} {t} {t′} {xs} {n} e r =
     record {
       words = s .words ∙ rw (taken-all xs) (words-all out xs);
       total = s .total ∙ rw (taken-all xs) (omega arith);
+      met = s .met ∙ omega arith;
       steps = s .steps ∙ omega arith;
       last = s .last ∙ ap (lastFound Nothing) (taken-all xs);
     }

@@ -39,9 +39,10 @@ pub enum Task {
     Pair(Pairing),
 }
 
-// How many were taken, the steps made, and the last one taken.
+// How many ancestors were taken and how many were met, the steps made, and the last one taken.
 pub struct Tally {
     pub total: usize,
+    pub met: usize,
     pub steps: usize,
     pub last: Found,
 }
@@ -121,6 +122,7 @@ fn step(t: Tally) -> Tally
     let last = t.last;
     Tally {
         total: t.total,
+        met: t.met,
         steps: t.steps + 1,
         last,
     }
@@ -132,11 +134,18 @@ fn visit(task: Task, a: Region, out: &mut [u32], t: Tally) -> Tally
     ensures { λ r. ⌜ Tallied task (now (out .entry)) t (a ∷ []) 0 (now (out .exit)) r ⌝ }
 {
     if !is_asked(task, a) {
-        return t;
+        let last = t.last;
+        return Tally {
+            total: t.total,
+            met: t.met + 1,
+            steps: t.steps,
+            last,
+        };
     }
     put(out, task, t.total, a);
     Tally {
         total: t.total + 1,
+        met: t.met + 1,
         steps: t.steps,
         last: Found::At(a),
     }
@@ -288,11 +297,12 @@ pub fn search(img: &[u32], p: u32, task: Task, out: &mut [u32], t: Tally) -> Tal
 }
 
 // Where a search begins.
-fn fresh() -> Tally
+pub fn fresh() -> Tally
     ensures { λ r. ⌜ r ≡ freshTally ⌝ }
 {
     Tally {
         total: 0,
+        met: 0,
         steps: 0,
         last: Found::Nothing,
     }

@@ -3,7 +3,7 @@
 -- Assumes nothing.
 use borrow.Author.Needs.{needs}
 use Prim.Native.Nat.{_≤_, _/_}
-use mathlib.Core.Path.{_≡_, refl, sym, _∙_}
+use mathlib.Core.Path.{sym, _∙_}
 use native.Mathlib.Omega.{arith}
 use lib.ListN.{length}
 use Rattle.words.specs.Lists.{filter}
@@ -13,8 +13,6 @@ use Rattle.leaves.specs.Cursors.{left}
 use Rattle.inward.specs.Lists.{asked}
 use Rattle.inward.proofs.Faces.{faces-few, faces-less, faces-behind, behind-rises}
 use Rattle.inward.proofs.Walks.{Walking, walk-start, walk-end, walk-stop, walk-more, walk-on}
-use denote.Ref.{now}
-use Rattle.words.proofs.Listed.{pairs-kept}
 use Rattle.inward.proofs.Faces.{faces-few, faces-less, faces-behind}
 use Rattle.inward.proofs.walk.Statement.{statement}
 use Rattle.inward.proofs.walk.Tie as tie

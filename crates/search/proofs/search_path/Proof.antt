@@ -40,7 +40,7 @@ loop-holds : tie.Need-loop-holds Inv-loop μ-loop
 loop-holds c = (omega arith, path-start (now (c .before .before .before .args .img)) (c .before .before .before .args .p))
 
 step-requires : tie.Need-step-requires Inv-loop μ-loop
-step-requires c κs = omega (arith, low (c .before), c .before .loop .inv .1 .total, c .before .loop .inv .1 .steps)
+step-requires c κs = omega (arith, low (c .before), c .before .loop .inv .1 .total, c .before .loop .inv .1 .met, c .before .loop .inv .1 .steps)
 
 mul-page-lists : tie.Need-mul-page-lists Inv-loop μ-loop
 mul-page-lists c = search needs
@@ -49,7 +49,7 @@ array-read-page-lists : tie.Need-array-read-page-lists Inv-loop μ-loop
 array-read-page-lists c = omega (arith, low (c .before .before))
 
 page-lists-requires : tie.Need-page-lists-requires Inv-loop μ-loop
-page-lists-requires c κs = (few (c .before .before .before), rw (c .before .step .ensures) (omega (arith, low (c .before .before .before), c .before .before .before .loop .inv .1 .total, c .before .before .before .loop .inv .1 .steps)))
+page-lists-requires c κs = (few (c .before .before .before), rw (c .before .step .ensures) (omega (arith, low (c .before .before .before), c .before .before .before .loop .inv .1 .total, c .before .before .before .loop .inv .1 .met, c .before .before .before .loop .inv .1 .steps)))
 
 add-i : tie.Need-add-i Inv-loop μ-loop
 add-i c = search needs
@@ -61,7 +61,7 @@ loop-again : tie.Need-loop-again Inv-loop μ-loop
 loop-again c = (omega arith, path-on (now (c .before .before .before .before .before .before .before .before .before .before .args .img)) (c .before .before .before .before .before .before .before .before .before .before .args .p) (c .before .before .before .before .before .before .loop .i) (c .before .before .before .before .before .before .loop .inv .1) _ (on-way (c .before .before .before .before .before .before)) _ (c .before .before .before .before .step .ensures) _ _ (omega (arith, low (c .before .before .before .before .before .before), c .before .before .before .before .before .before .before .depth .ensures)) (few (c .before .before .before .before .before .before)) (c .before .before .page-lists .ensures))
 
 step-requires-2 : tie.Need-step-requires-2 Inv-loop μ-loop
-step-requires-2 c κs = omega (arith, low (c .before), c .before .loop .inv .1 .total, c .before .loop .inv .1 .steps)
+step-requires-2 c κs = omega (arith, low (c .before), c .before .loop .inv .1 .total, c .before .loop .inv .1 .met, c .before .loop .inv .1 .steps)
 
 mul-leaf-own : tie.Need-mul-leaf-own Inv-loop μ-loop
 mul-leaf-own c = search needs
@@ -70,7 +70,7 @@ array-read-leaf-own : tie.Need-array-read-leaf-own Inv-loop μ-loop
 array-read-leaf-own c = omega (arith, low (c .before .before))
 
 leaf-own-requires : tie.Need-leaf-own-requires Inv-loop μ-loop
-leaf-own-requires c κs = (rw (ended (c .before .before)) (few (c .before .before .before)), rw (c .before .step2 .ensures) (omega (arith, low (c .before .before .before), c .before .before .before .loop .inv .1 .total, c .before .before .before .loop .inv .1 .steps)))
+leaf-own-requires c κs = (rw (ended (c .before .before)) (few (c .before .before .before)), rw (c .before .step2 .ensures) (omega (arith, low (c .before .before .before), c .before .before .before .loop .inv .1 .total, c .before .before .before .loop .inv .1 .met, c .before .before .before .loop .inv .1 .steps)))
 
 same-length : tie.Need-same-length Inv-loop μ-loop
 same-length c = search needs

@@ -1,0 +1,4 @@
+pub mod Sound
+pub mod Ahead
+pub mod Turns
+pub mod Ways

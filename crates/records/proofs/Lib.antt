@@ -1,0 +1,10 @@
+pub mod Chains
+pub mod Spots
+pub mod Marks
+pub mod Splices
+pub mod Small
+pub mod Coming
+pub mod Going
+pub mod Lifting
+pub mod Paged
+pub mod Leaves
