@@ -1,21 +1,24 @@
 -- The ways out of the searches: IMAGE, then the call's own numbers, then what is found.
 -- Assumes nothing.
-use Prim.Native.Nat.{ℕ}
+use Prim.Native.Nat.{ℕ, _<_, _≤_}
 use mathlib.Core.Path.{_≡_, refl, sym, ap, _∙_}
 use mathlib.Core.Bool.{Bool, true, false, _&&_, cond}
 use mathlib.Core.List.{List, [], _∷_}
 use lib.ListN.{length}
 use native.Mathlib.Omega.{arith}
 use Rattle.words.specs.Lists.{firstNo}
+use Rattle.words.proofs.Tests.{lt-yes, lt-no}
 use Rattle.regions.specs.Numbers.{imageFirst}
 use Rattle.regions.specs.Positions.{wellBound}
-use Rattle.regions.specs.Calls.{regionWidth, regionWords, written, countWritten, moreRemain, foreign, pointNo, boundsNo, ancestors, parent}
+use Rattle.regions.specs.Calls.{regionWidth, regionWords, written, countWritten, moreRemain, foreign, pointNo, boundsNo, ancestors, parent, pairWidth, pairWords, joinNo, joined}
 use Rattle.regions.specs.declared.Region.{Region}
+use Rattle.regions.specs.declared.Kind.{Kind}
 use Rattle.image.specs.Read.{setOf}
 use Rattle.image.specs.Valid.{valid}
 use Rattle.search.specs.Tallies.{foundList}
 use Rattle.search.specs.declared.Found.{Found}
 use Rattle.search.specs.declared.Found.the-variants.{Nothing as NotFound, At as FoundAt}
+use Rattle.index.specs.Joins.{JoinsSets}
 use Rattle.index.specs.Searches.{stepCount, FindsAncestors, parentNumber, parentFound, FindsParent, Lists}
 use Rattle.index.specs.declared.Parent.{Parent}
 use Rattle.index.specs.declared.Parent.the-variants.{Refused, Nothing, At}
@@ -88,3 +91,26 @@ lists-refused w a s e rs out n h f = record { number-is = f; refused = λ z. (re
 pub lists-found : (w : List ℕ) (a s e : ℕ) (rs : List Region) (out out′ : List ℕ) (n count : ℕ) (more : Bool) → n ≡ 0 → n ≡ imageFirst (valid w) (boundsNo a s e)
     → count ≡ countWritten regionWidth out rs → more ≡ moreRemain regionWidth out rs → out′ ≡ written regionWords regionWidth out rs → Lists w a s e rs out 0 count more out′
 lists-found w a s e rs out out′ n count more z f c m o = record { number-is = sym z ∙ f; refused = λ h. absurd (h refl); done = λ h. (c, m, o) }
+
+-- THE JOIN
+pub either-invalid : (u v : Bool) (n : ℕ) → u ≡ true → v ≡ false → 1 ≡ imageFirst (u && v) n
+either-invalid u v n e f = rw (e, f)
+
+pub outer-invalid : (u v : Bool) (n : ℕ) → u ≡ false → 1 ≡ imageFirst (u && v) n
+outer-invalid u v n e = rw e
+
+pub join-foreign : (u v : Bool) (a : ℕ) → u ≡ true → v ≡ true → 15 < a → 3 ≡ imageFirst (u && v) (joinNo a)
+unfolding joinNo firstNo
+join-foreign u v a e f h = rw (e, f, lt-yes 15 a h)
+
+join-own : (u v : Bool) (a : ℕ) → u ≡ true → v ≡ true → a ≤ 15 → 0 ≡ imageFirst (u && v) (joinNo a)
+unfolding joinNo firstNo
+join-own u v a e f h = rw (e, f, lt-no 15 a h)
+
+pub join-refused : (u v : List ℕ) (a : ℕ) (k : Kind) (out : List ℕ) (n : ℕ) → (n ≡ 0 → ⊥) → n ≡ imageFirst (valid u && valid v) (joinNo a) → JoinsSets u v a k out n 0 out
+join-refused u v a k out n h e = record { number-is = e; refused = λ z. (refl, refl); done = λ z. absurd (h z) }
+
+pub join-found : (u v : List ℕ) (a : ℕ) (k : Kind) (out out′ : List ℕ) (total : ℕ) → valid u ≡ true → valid v ≡ true → a ≤ 15 → total ≡ length (joined (setOf u) (setOf v) a k)
+    → out′ ≡ written pairWords pairWidth out (joined (setOf u) (setOf v) a k) → JoinsSets u v a k out 0 total out′
+join-found u v a k out out′ total e f h t o =
+    record { number-is = join-own (valid u) (valid v) a e f h; refused = λ z. absurd (z refl); done = λ z. (t, o) }

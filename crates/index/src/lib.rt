@@ -9,7 +9,9 @@ ghost use Rattle.regions.specs.Numbers.{imageFirst};
 ghost use Rattle.regions.specs.Calls.{boundsNo};
 ghost use Rattle.image.specs.Valid.{valid};
 ghost use Rattle.index.specs.Opening.{openedImage, OpensSet};
+ghost use Rattle.index.specs.Joins.{JoinsSets};
 ghost use Rattle.index.specs.Searches.{FindsAncestors, FindsParent, FindsDescendants, FindsChildren};
+use regions::Kind;
 use regions::Region;
 use search::Found;
 
@@ -25,6 +27,12 @@ pub struct Listed {
     pub number: u32,
     pub count: usize,
     pub more: bool,
+}
+
+// The join's answer: its number, and how many pairs there are.
+pub struct JoinedPairs {
+    pub number: u32,
+    pub total: usize,
 }
 
 // The parent search's answer.
@@ -212,4 +220,36 @@ pub fn find_children(
         count: l.count,
         more: l.more,
     }
+}
+
+// The pairs of an account, one region of outer and one of inner each, by d's start and then a's start: as many as fit, and their total.
+pub fn join_sets(
+    outer: &[u32],
+    inner: &[u32],
+    account: u32,
+    kind: Kind,
+    out: &mut [u32],
+) -> JoinedPairs
+    ensures { λ r. ⌜ JoinsSets (now (outer .entry)) (now (inner .entry)) account kind (now (out .entry)) (r .number) (r .total) (now (out .exit)) ⌝ }
+{
+    if !is_valid(outer) {
+        return JoinedPairs {
+            number: 1,
+            total: 0,
+        };
+    }
+    if !is_valid(inner) {
+        return JoinedPairs {
+            number: 1,
+            total: 0,
+        };
+    }
+    if 15 < account {
+        return JoinedPairs {
+            number: 3,
+            total: 0,
+        };
+    }
+    let total = join::join_all(outer, inner, account, kind, out);
+    JoinedPairs { number: 0, total }
 }
