@@ -6,5 +6,3 @@ pub mod Small
 pub mod Coming
 pub mod Going
 pub mod Lifting
-pub mod Paged
-pub mod Leaves

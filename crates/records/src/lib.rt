@@ -1,23 +1,15 @@
 // What save and delete do to a key's stab list: a region comes or goes, a beginning of one list goes in front of another, all records of a list
 // are given back. Only words of stab records are written; a key is carried by value, and the caller stores its words into its page.
 ghost use mathlib.Core.Path.{_≡_};
-ghost use mathlib.Core.List.{List, [], _∷_, map};
-ghost use Prim.Native.Nat.{ℕ, _≤_, _<_};
+ghost use mathlib.Core.List.{List, []};
+ghost use Prim.Native.Nat.{ℕ, _≤_};
 ghost use lib.ListN.{length};
 ghost use Rattle.regions.specs.Positions.{stabs};
 ghost use Rattle.xrtree.specs.Tree.{Key};
-ghost use Rattle.xrtree.proofs.Split.{fresh};
-ghost use Rattle.xrtree.proofs.Merge.{anyStart, clear};
-ghost use Rattle.pages.specs.Layout.{fillOf, entryWord, regionIn, flagIn};
-ghost use Rattle.image.specs.Read.{entryAt};
-ghost use Rattle.image.specs.Decode.{keyWordsAt};
-ghost use Rattle.pagework.specs.Pages.{putFor, entriesOf, keysOf};
 ghost use Rattle.holding.specs.Held.{Chain, KeyHeld};
 ghost use Rattle.records.specs.Touched.{Touched, Uses, AllUsed, Room, Ends};
 ghost use Rattle.records.specs.Ways.{before, LastOf, behind, linkedWords, linkedHead, keyFrom, freeAll};
 ghost use Rattle.records.specs.Kept.{Came, pushedKey, enteredKey, Went, Lifts, Apart, Dropped};
-ghost use Rattle.records.specs.Paged.{Holds, Raised, Sunk};
-ghost use Rattle.records.specs.Leaves.{Ready, GathersOne, Gathers, SameButEntries, heldList};
 use pages::KeyWords;
 use regions::Region;
 
@@ -25,12 +17,6 @@ use regions::Region;
 pub struct Lifted {
     pub from: KeyWords,
     pub to: KeyWords,
-}
-
-// A page's words and a key's, after lists went to and fro between them.
-pub struct Listed {
-    pub page: [u32; 57],
-    pub key: KeyWords,
 }
 
 // The last record of the list's beginning whose regions x stabs, 0 where x does not stab the first. (Lists nest, so x stabs none behind it.)
@@ -181,175 +167,4 @@ pub fn drop_list(img: &mut [u32], head: u32)
         store::free_record(img, q);
         q = n;
     }
-}
-
-// Key i of a page's words.
-fn key_in(ws: [u32; 57], i: usize) -> KeyWords
-    requires { ⌜ i < 9 ⌝ }
-    ensures { λ r. ⌜ r ≡ keyWordsAt ws i ⌝ }
-{
-    let b = 3 + 4 * i;
-    KeyWords {
-        key: ws[b],
-        start: ws[b + 1],
-        end: ws[b + 2],
-        head: ws[b + 3],
-    }
-}
-
-// An inner split: key k goes up, and what it stabs of the lists of the left page's keys goes in front of its own. The last key gives first,
-// since its regions lie inside those of the keys before it.
-pub fn raise(img: &mut [u32], ws: [u32; 57], k: KeyWords) -> Listed
-    requires { ⌜ (length (now img) ≡ 12288) × (fillOf ws ≤ 9) × Holds (now img) (keysOf ws) k ⌝ }
-    ensures { λ t. ⌜ Raised (now (img .entry)) (now (img .exit)) ws k t ⌝ }
-{
-    let mut page = ws;
-    let mut key = renewed(img, k, k.head);
-    let mut i = words::wide(ws[1]);
-    while 0 < i {
-        i -= 1;
-        let from = key_in(page, i);
-        let t = lift(img, from, key, key.key);
-        let gave = t.from;
-        let next = pagework::set_key(page, i, gave);
-        page = next;
-        key = t.to;
-    }
-    Listed {
-        page: page,
-        key: key,
-    }
-}
-
-// An inner merge: key k came down behind the left page's keys, and each of them takes what it stabs of k's list. The first takes first, since it
-// is the smallest key to stab what it takes.
-pub fn sink(img: &mut [u32], ws: [u32; 57], k: KeyWords) -> Listed
-    requires { ⌜ (length (now img) ≡ 12288) × (fillOf ws ≤ 9) × Holds (now img) (keysOf ws) k ⌝ }
-    ensures { λ t. ⌜ Sunk (now (img .entry)) (now (img .exit)) ws k t ⌝ }
-{
-    let mut page = ws;
-    let mut key = renewed(img, k, k.head);
-    let n = words::wide(ws[1]);
-    let mut i: usize = 0;
-    while i < n {
-        let to = key_in(page, i);
-        let t = lift(img, key, to, to.key);
-        let took = t.to;
-        let next = pagework::set_key(page, i, took);
-        page = next;
-        key = t.from;
-        i += 1;
-    }
-    Listed {
-        page: page,
-        key: key,
-    }
-}
-
-// The region of entry i of a leaf's words, and its flag.
-fn region_in(ws: [u32; 57], i: usize) -> Region
-    requires { ⌜ i < 9 ⌝ }
-    ensures { λ r. ⌜ r ≡ regionIn ws (entryWord i) ⌝ }
-{
-    let b = 3 + 6 * i;
-    Region {
-        start: ws[b],
-        end: ws[b + 1],
-        level: ws[b + 2],
-        reference: ws[b + 3],
-    }
-}
-
-fn flag_in(ws: [u32; 57], i: usize) -> u32
-    requires { ⌜ i < 9 ⌝ }
-    ensures { λ r. ⌜ r ≡ flagIn ws i ⌝ }
-{
-    ws[3 + 6 * i + 4]
-}
-
-// One entry of a leaf that is split: if the new key stabs it, it is marked, and it goes into the key's list if it was in none.
-fn gather_one(img: &mut [u32], ws: [u32; 57], i: usize, k: KeyWords) -> Listed
-    requires { ⌜ (length (now img) ≡ 12288) × (fillOf ws ≤ 9) × (i < fillOf ws) × (1 ≤ k .key) ⌝ }
-    requires { ⌜ (1 ≤ length (fresh (k .key) (entryAt ws i ∷ [])) → Room (now img)) ⌝ }
-    ensures { λ t. ⌜ GathersOne (now (img .entry)) (now (img .exit)) ws k i t ⌝ }
-{
-    let r = region_in(ws, i);
-    if !regions::stabs(k.key, r) {
-        return Listed { page: ws, key: k };
-    }
-    let page = pagework::set_flag(ws, i, 1);
-    if flag_in(ws, i) != 0 {
-        return Listed { page: page, key: k };
-    }
-    let key = push(img, k, r);
-    Listed {
-        page: page,
-        key: key,
-    }
-}
-
-// A leaf split: the new key's own regions are those of the entries in no list that it stabs. From the last to the first, so that each goes in
-// front; first the right leaf's entries, then the left one's.
-pub fn gather(img: &mut [u32], ws: [u32; 57], k: KeyWords) -> Listed
-    requires { ⌜ (length (now img) ≡ 12288) × (fillOf ws ≤ 9) × (1 ≤ k .key) × Ready (now img) k (length (fresh (k .key) (entriesOf ws))) ⌝ }
-    ensures { λ t. ⌜ Gathers (now (img .entry)) (now (img .exit)) ws k t ⌝ }
-{
-    let mut page = ws;
-    let mut key = renewed(img, k, k.head);
-    let mut i = words::wide(ws[1]);
-    while 0 < i {
-        i -= 1;
-        let t = gather_one(img, page, i, key);
-        let next = t.page;
-        page = next;
-        key = t.key;
-    }
-    Listed {
-        page: page,
-        key: key,
-    }
-}
-
-// Whether a region of the list from `head` on has that start.
-fn has_start(img: &[u32], head: u32, start: u32) -> bool
-    requires { ⌜ Ends (now img) head ⌝ }
-    ensures { λ t. ⌜ t ≡ anyStart start (heldList (now (img .entry)) head) ⌝ }
-{
-    let mut q = head;
-    while q != 0 {
-        let r = pages::record_region(img, q);
-        if r.start == start {
-            return true;
-        }
-        q = pages::record_next(img, q);
-    }
-    false
-}
-
-// One entry of a leaf that is merged: it gets flag 0 if its region stands in the list from `head` on. Starts tell the regions of a set apart.
-fn clear_one(img: &[u32], ws: [u32; 57], i: usize, head: u32) -> [u32; 57]
-    requires { ⌜ Ends (now img) head × (fillOf ws ≤ 9) × (i < fillOf ws) ⌝ }
-    ensures { λ r. ⌜ SameButEntries ws r (putFor i (clear (heldList (now (img .entry)) head) (entryAt ws i)) (entriesOf ws)) ⌝ }
-{
-    let r = region_in(ws, i);
-    if has_start(img, head, r.start) {
-        return pagework::set_flag(ws, i, 0);
-    }
-    ws
-}
-
-// A leaf merge: what is left of the list of the key that goes is in no list any more, so those entries get flag 0. Then `drop_list` gives the records back.
-pub fn clear_flags(img: &[u32], ws: [u32; 57], head: u32) -> [u32; 57]
-    requires { ⌜ Ends (now img) head × (fillOf ws ≤ 9) ⌝ }
-    ensures { λ r. ⌜ SameButEntries ws r (map (clear (heldList (now (img .entry)) head)) (entriesOf ws)) ⌝ }
-{
-    let mut page = ws;
-    let n = words::wide(ws[1]);
-    let mut i: usize = 0;
-    while i < n {
-        let next = clear_one(img, page, i, head);
-        page = next;
-        i += 1;
-    }
-    page
 }
