@@ -72,7 +72,7 @@ pub fn innermost_at(img: &[u32], x: u32) -> Found
 }
 
 // Whether one was found.
-fn is_found(f: Found) -> bool
+pub fn is_found(f: Found) -> bool
     ensures { λ t. ⌜ t ≡ some (foundList f) ⌝ }
 {
     let Found::At(_) = f else {

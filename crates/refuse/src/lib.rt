@@ -1,0 +1,82 @@
+// Which test refuses a save or a delete: IMAGE before all else, then the call's own tests in their order; 0 where the call may go on.
+ghost use mathlib.Core.Path.{_≡_};
+ghost use Prim.Native.Nat.{_≤_, _<_};
+ghost use lib.Dec.{T, leb};
+ghost use lib.ListN.{getD};
+ghost use Rattle.regions.specs.Sets.{heldAt, shareOf, heldBy, crossed};
+ghost use Rattle.regions.specs.Numbers.{imageFirst};
+ghost use Rattle.regions.specs.Calls.{saveNo, deleteNo};
+ghost use Rattle.image.specs.Read.{setOf};
+ghost use Rattle.image.specs.Valid.{valid};
+use regions::Region;
+
+// Whether a region with that start is held.
+fn is_held(img: &[u32], start: u32) -> bool
+    requires { ⌜ T (valid (now img)) ⌝ }
+    ensures { λ r. ⌜ r ≡ heldAt start (setOf (now (img .entry))) ⌝ }
+{
+    let found = touch::region_at(img, start);
+    touch::is_found(found)
+}
+
+// Whether an account holds as many regions as its share. The audit has counted them.
+fn is_full(img: &[u32], account: u32, held: [u32; 16]) -> bool
+    requires { ⌜ T (valid (now img)) ⌝ }
+    requires { ⌜ (account < 16) × (getD held account 0 ≡ heldBy account (setOf (now img))) ⌝ }
+    ensures { λ r. ⌜ r ≡ leb (shareOf account (setOf (now (img .entry)))) (heldBy account (setOf (now (img .entry)))) ⌝ }
+{
+    let a = words::wide(account);
+    let share = words::word(img, 2 + a);
+    share <= held[a]
+}
+
+// Of a save into a valid image.
+fn own_save_number(img: &[u32], account: u32, r: Region, held: [u32; 16]) -> u32
+    requires { ⌜ T (valid (now img)) ⌝ }
+    requires { ⌜ (account < 16 → getD held account 0 ≡ heldBy account (setOf (now img))) ⌝ }
+    ensures { λ n. ⌜ n ≡ saveNo (setOf (now (img .entry))) account r ⌝ }
+{
+    if !regions::well_formed(r) {
+        return 2;
+    }
+    if regions::foreign(account, r.start) {
+        return 3;
+    }
+    if is_held(img, r.start) {
+        return 4;
+    }
+    if touch::crosses_held(img, r) {
+        return 5;
+    }
+    if is_full(img, account, held) {
+        return 6;
+    }
+    0
+}
+
+pub fn save_number(img: &[u32], account: u32, r: Region) -> u32
+    ensures { λ n. ⌜ n ≡ imageFirst (valid (now (img .entry))) (saveNo (setOf (now (img .entry))) account r) ⌝ }
+{
+    let report = audit::audit(img);
+    let held = report.held;
+    if !report.ok {
+        return 1;
+    }
+    own_save_number(img, account, r, held)
+}
+
+pub fn delete_number(img: &[u32], account: u32, start: u32) -> u32
+    ensures { λ n. ⌜ n ≡ imageFirst (valid (now (img .entry))) (deleteNo (setOf (now (img .entry))) account start) ⌝ }
+{
+    let report = audit::audit(img);
+    if !report.ok {
+        return 1;
+    }
+    if regions::foreign(account, start) {
+        return 3;
+    }
+    if !is_held(img, start) {
+        return 7;
+    }
+    0
+}
