@@ -2,3 +2,4 @@ pub mod Opened
 pub mod Empty
 pub mod Once
 pub mod Answers
+pub mod Changed
