@@ -1,0 +1,5 @@
+pub mod Whole
+pub mod Ways
+pub mod Owners
+pub mod Lies
+pub mod Changed

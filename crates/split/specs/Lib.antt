@@ -1,0 +1,4 @@
+pub mod Sides
+pub mod Stored
+pub mod Moves
+pub mod Ready
