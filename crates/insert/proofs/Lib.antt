@@ -1,0 +1,5 @@
+pub mod Reading
+pub mod Settles
+pub mod Turns
+pub mod Roots
+pub mod Entered
