@@ -9,6 +9,7 @@ ghost use Rattle.regions.specs.Numbers.{imageFirst};
 ghost use Rattle.regions.specs.Calls.{boundsNo};
 ghost use Rattle.image.specs.Valid.{valid};
 ghost use Rattle.index.specs.Opening.{openedImage, OpensSet};
+ghost use Rattle.index.specs.Changes.{Saves};
 ghost use Rattle.index.specs.Joins.{JoinsSets};
 ghost use Rattle.index.specs.Searches.{FindsAncestors, FindsParent, FindsDescendants, FindsChildren};
 use regions::Kind;
@@ -106,6 +107,18 @@ fn is_valid(img: &[u32]) -> bool
 {
     let report = audit::audit(img);
     report.ok
+}
+
+// Saves a region in its account: refused by the first test that it fails, and then no word changes.
+pub fn save(img: &mut [u32], account: u32, r: Region) -> u32
+    ensures { λ n. ⌜ Saves (now (img .entry)) account r n (now (img .exit)) ⌝ }
+{
+    let number = refuse::save_number(img, account, r);
+    if number != 0 {
+        return number;
+    }
+    insert::insert(img, r);
+    0
 }
 
 // The ancestors of position p, outermost first: as many as fit, their total, and the steps that the search made.
