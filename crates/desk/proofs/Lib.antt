@@ -1,0 +1,12 @@
+pub mod AskDesk
+pub mod AskImages
+pub mod AskTurn
+pub mod Frames
+pub mod Handed
+pub mod LendArray
+pub mod Once
+pub mod Relent
+pub mod Rows
+pub mod Served
+pub mod Tested
+pub mod Turned

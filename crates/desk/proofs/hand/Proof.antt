@@ -1,0 +1,59 @@
+-- `desk::hand` meets its contract: by what the join's writer leaves in the part.
+-- Assumes nothing.
+use Prim.Native.Nat.{_+_, _*_, _-_}
+use native.Mathlib.Omega.{arith}
+use Rattle.words.proofs.Tests.{T-of}
+use Rattle.regions.proofs.Seats.{open-ok}
+use Rattle.desk.proofs.Handed.{hands}
+use borrow.Author.Needs.{needs}
+use Rattle.desk.proofs.hand.Statement.{statement}
+use Rattle.desk.proofs.hand.Tie as tie
+
+mul-a : tie.Need-mul-a
+mul-a c = search needs
+
+cast-e : tie.Need-cast-e
+cast-e c = search needs
+
+mul-e : tie.Need-mul-e
+mul-e c = search needs
+
+add-e : tie.Need-add-e
+add-e c = search needs
+
+mul-pairs-past : tie.Need-mul-pairs-past
+mul-pairs-past c = search needs
+
+sub-pairs-past : tie.Need-sub-pairs-past
+sub-pairs-past c = search needs
+
+part-pairs-past-start : tie.Need-part-pairs-past-start
+part-pairs-past-start c = search needs
+
+part-pairs-past-end : tie.Need-part-pairs-past-end
+part-pairs-past-end c = let m = c .before .before .before .before .pre in let e = m .words in let l = m .seat in let h = open-ok (c .before .before .before .before .args .o) (m .fits) .high in search needs
+
+pairs-past-requires : tie.Need-pairs-past-requires
+pairs-past-requires c κs = let m = c .before .before .before .before .before .pre in (T-of (m .outer-valid), (T-of (m .inner-valid), open-ok (c .before .before .before .before .before .args .o) (m .fits) .range))
+
+same-length : tie.Need-same-length
+same-length c = search needs
+
+returns : tie.Need-returns
+returns c = let m = c .before .before .before .before .before .before .before .before .pre in let o = c .before .before .before .before .before .before .before .before .args .o in let i = c .before .before .before .before .before .before .before .before .args .i in hands _ _ o (c .before .before .before .before .before .before .before .before .args .buffer .now) i ((128 * i + 4 * o .limit) - 128 * i) (c .before .before .pairs-past .result) _ (m .words) (m .seat) (m .fits) (omega arith) (c .before .before .pairs-past .ensures)
+
+pub hand-spec : {M : Type 1} → statement M
+hand-spec =
+    tie.close
+    (tie.spec
+    mul-a
+    cast-e
+    mul-e
+    add-e
+    mul-pairs-past
+    sub-pairs-past
+    part-pairs-past-start
+    part-pairs-past-end
+    pairs-past-requires
+    same-length
+    returns)
