@@ -9,7 +9,7 @@ ghost use Rattle.regions.specs.Numbers.{imageFirst};
 ghost use Rattle.regions.specs.Calls.{boundsNo};
 ghost use Rattle.image.specs.Valid.{valid};
 ghost use Rattle.index.specs.Opening.{openedImage, OpensSet};
-ghost use Rattle.index.specs.Changes.{Saves};
+ghost use Rattle.index.specs.Changes.{Saves, Deletes};
 ghost use Rattle.index.specs.Joins.{JoinsSets};
 ghost use Rattle.index.specs.Searches.{FindsAncestors, FindsParent, FindsDescendants, FindsChildren};
 use regions::Kind;
@@ -118,6 +118,18 @@ pub fn save(img: &mut [u32], account: u32, r: Region) -> u32
         return number;
     }
     insert::insert(img, r);
+    0
+}
+
+// Deletes the region of an account that starts at `start`.
+pub fn delete(img: &mut [u32], account: u32, start: u32) -> u32
+    ensures { λ n. ⌜ Deletes (now (img .entry)) account start n (now (img .exit)) ⌝ }
+{
+    let number = refuse::delete_number(img, account, start);
+    if number != 0 {
+        return number;
+    }
+    remove::remove(img, start);
     0
 }
 
