@@ -37,8 +37,5 @@ pub fn audit(img: &[u32]) -> Report
     if !stablists::lists_right(img) {
         return refused();
     }
-    Report {
-        ok: true,
-        held,
-    }
+    Report { ok: true, held }
 }

@@ -66,13 +66,15 @@ module _ (w w′ : List ℕ) where
   kids-frame h f [] last a b g = f last a b g
   kids-frame h f (c ∷ cs) last a b g =
       let ra = all-right (SamePage w w′) (listed listPages h (c .0)) _ a in
-      let rb = all-right (SameRecord w w′) (listed listRecords h (c .0)) _ b in
-      (f (c .0) (all-left (SamePage w w′) (listed listPages h (c .0)) _ a) (all-left (SameRecord w w′) (listed listRecords h (c .0)) _ b) (g .0),
-      kids-frame h f cs last ra (all-right (SameRecord w w′) (c .1 .places) _ rb) (g .1))
+      let rb = all-right (SameRecord w w′) (listed listRecords h (c .0)) _ b in (
+        f (c .0) (all-left (SamePage w w′) (listed listPages h (c .0)) _ a) (all-left (SameRecord w w′) (listed listRecords h (c .0)) _ b) (g .0),
+        kids-frame h f cs last ra (all-right (SameRecord w w′) (c .1 .places) _ rb) (g .1),
+      )
 
   pub held-frame : (h : ℕ) (t : Tree h) → All (SamePage w w′) (pagePlaces h t) → All (SameRecord w w′) (recordPlaces h t) → Held w h t → Held w′ h t
   unfolding listed
   held-frame zero t a b g = subst (λ ws. LeafHeld ws t) (sym (a .0)) g
-  held-frame (suc h) t a b g =
-      (page-frame w w′ h t (a .0) (own-records (SameRecord w w′) (listed listRecords h) (t .kids) (t .last) b) (g .0),
-      kids-frame h (λ u x y z. held-frame h u x y z) (t .kids) (t .last) (a .1) b (g .1))
+  held-frame (suc h) t a b g = (
+    page-frame w w′ h t (a .0) (own-records (SameRecord w w′) (listed listRecords h) (t .kids) (t .last) b) (g .0),
+    kids-frame h (λ u x y z. held-frame h u x y z) (t .kids) (t .last) (a .1) b (g .1),
+  )

@@ -72,9 +72,10 @@ module _ (w w′ : List ℕ) (h : ℕ) where
   unfolding weave
   rest-frame [] last a b g = held-frame w w′ h last a b g
   rest-frame (c ∷ cs) last a b g =
-      let rb = all-right (SameRecord w w′) (listed listRecords h (c .0)) _ b in
-      (held-frame w w′ h (c .0) (all-left (SamePage w w′) (listed listPages h (c .0)) _ a) (all-left (SameRecord w w′) (listed listRecords h (c .0)) _ b) (g .0),
-      rest-frame cs last (all-right (SamePage w w′) (listed listPages h (c .0)) _ a) (all-right (SameRecord w w′) (c .1 .places) _ rb) (g .1))
+      let rb = all-right (SameRecord w w′) (listed listRecords h (c .0)) _ b in (
+        held-frame w w′ h (c .0) (all-left (SamePage w w′) (listed listPages h (c .0)) _ a) (all-left (SameRecord w w′) (listed listRecords h (c .0)) _ b) (g .0),
+        rest-frame cs last (all-right (SamePage w w′) (listed listPages h (c .0)) _ a) (all-right (SameRecord w w′) (c .1 .places) _ rb) (g .1),
+      )
 
   every-refill : (pre : List (Tree h × Key)) (post : Post (Tree h)) (u u′ : Tree h)
       → All (SamePage w w′) (beforeKids listPages h pre) → All (SamePage w w′) (afterKids listPages h post)
@@ -83,13 +84,15 @@ module _ (w w′ : List ℕ) (h : ℕ) where
   every-refill [] (atKey k cs last) u u′ a b x y g n = (n, rest-frame cs last b (all-right (SameRecord w w′) (k .places) _ y) (g .1))
   every-refill [] atEnd u u′ a b x y g n = n
   every-refill (c ∷ pre) (atKey k cs last) u u′ a b x y g n =
-      let rx = all-right (SameRecord w w′) (listed listRecords h (c .0)) _ x in
-      (held-frame w w′ h (c .0) (all-left (SamePage w w′) (listed listPages h (c .0)) _ a) (all-left (SameRecord w w′) (listed listRecords h (c .0)) _ x) (g .0),
-      every-refill pre (atKey k cs last) u u′ (all-right (SamePage w w′) (listed listPages h (c .0)) _ a) b (all-right (SameRecord w w′) (c .1 .places) _ rx) y (g .1) n)
+      let rx = all-right (SameRecord w w′) (listed listRecords h (c .0)) _ x in (
+        held-frame w w′ h (c .0) (all-left (SamePage w w′) (listed listPages h (c .0)) _ a) (all-left (SameRecord w w′) (listed listRecords h (c .0)) _ x) (g .0),
+        every-refill pre (atKey k cs last) u u′ (all-right (SamePage w w′) (listed listPages h (c .0)) _ a) b (all-right (SameRecord w w′) (c .1 .places) _ rx) y (g .1) n,
+      )
   every-refill (c ∷ pre) atEnd u u′ a b x y g n =
-      let rx = all-right (SameRecord w w′) (listed listRecords h (c .0)) _ x in
-      (held-frame w w′ h (c .0) (all-left (SamePage w w′) (listed listPages h (c .0)) _ a) (all-left (SameRecord w w′) (listed listRecords h (c .0)) _ x) (g .0),
-      every-refill pre atEnd u u′ (all-right (SamePage w w′) (listed listPages h (c .0)) _ a) b (all-right (SameRecord w w′) (c .1 .places) _ rx) y (g .1) n)
+      let rx = all-right (SameRecord w w′) (listed listRecords h (c .0)) _ x in (
+        held-frame w w′ h (c .0) (all-left (SamePage w w′) (listed listPages h (c .0)) _ a) (all-left (SameRecord w w′) (listed listRecords h (c .0)) _ x) (g .0),
+        every-refill pre atEnd u u′ (all-right (SamePage w w′) (listed listPages h (c .0)) _ a) b (all-right (SameRecord w w′) (c .1 .places) _ rx) y (g .1) n,
+      )
 
   own-before : (pre : List (Tree h × Key)) (post : Post (Tree h)) (u : Tree h) → All (SameRecord w w′) (beforeKids listRecords h pre) → All (SameRecord w w′) (afterKids listRecords h post)
       → All (SameRecord w w′) (keyRecords (fillKids pre post u))
@@ -119,17 +122,17 @@ held-hole w w′ (suc d) m c t a b x y g =
     let px = all-left (SameRecord w w′) (beforeKids listRecords (up d m) (c .1)) (before listRecords d m (c .3)) x in
     let py = all-right (SameRecord w w′) (after listRecords d m (c .3)) (afterKids listRecords (up d m) (c .2)) y in
     let r = held-hole w w′ d m (c .3) t
-        (all-right (SamePage w w′) (beforeKids listPages (up d m) (c .1)) (before listPages d m (c .3)) (a .1))
-        (all-left (SamePage w w′) (after listPages d m (c .3)) (afterKids listPages (up d m) (c .2)) b)
-        (all-right (SameRecord w w′) (beforeKids listRecords (up d m) (c .1)) (before listRecords d m (c .3)) x)
-        (all-left (SameRecord w w′) (after listRecords d m (c .3)) (afterKids listRecords (up d m) (c .2)) y)
-        (every-hole (Held w (up d m)) (c .1) (c .2) u (g .1)) in
+    (all-right (SamePage w w′) (beforeKids listPages (up d m) (c .1)) (before listPages d m (c .3)) (a .1))
+    (all-left (SamePage w w′) (after listPages d m (c .3)) (afterKids listPages (up d m) (c .2)) b)
+    (all-right (SameRecord w w′) (beforeKids listRecords (up d m) (c .1)) (before listRecords d m (c .3)) x)
+    (all-left (SameRecord w w′) (after listRecords d m (c .3)) (afterKids listRecords (up d m) (c .2)) y)
+    (every-hole (Held w (up d m)) (c .1) (c .2) u (g .1)) in
     record {
       here = r .here;
       refill = λ t′ e n. (
         page-frame w w′ (up d m) (fill (c .0) (c .1) (c .2) (plug d m (c .3) t′)) (a .0)
-        (own-before w w′ (up d m) (c .1) (c .2) (plug d m (c .3) t′) px py)
-        (page-refill w _ (up d m) (c .0) (c .1) (c .2) u (plug d m (c .3) t′) (place-plug d m (c .3) t t′ e) (g .0)),
+            (own-before w w′ (up d m) (c .1) (c .2) (plug d m (c .3) t′) px py)
+            (page-refill w _ (up d m) (c .0) (c .1) (c .2) u (plug d m (c .3) t′) (place-plug d m (c .3) t t′ e) (g .0)),
         every-refill w w′ (up d m) (c .1) (c .2) u (plug d m (c .3) t′) pa pb px py (g .1) (r .refill t′ e n),
       );
     }

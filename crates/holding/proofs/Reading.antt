@@ -62,13 +62,14 @@ unfolding readTree
 read-held zero w p a = record { entries-are = refl; next-is = refl }
 read-held (suc h) w p a =
     let ws = pageOf w p in
-    let n = fillOf (pageOf w p) in
-    (record {
-      fill-is = sym (kids-long (readTree h w) w ws 0 n);
-      children-are = places n;
-      keys-held = keys-read (readTree h w) (placeOf h) (place-read h w) w ws 0 n (a .0);
-    },
-    below (λ q y. read-held h w q y) n (a .1))
+    let n = fillOf (pageOf w p) in (
+      record {
+        fill-is = sym (kids-long (readTree h w) w ws 0 n);
+        children-are = places n;
+        keys-held = keys-read (readTree h w) (placeOf h) (place-read h w) w ws 0 n (a .0);
+      },
+      below (λ q y. read-held h w q y) n (a .1),
+    )
   where
     places : (n : ℕ) → childrenFrom (pageOf w p) 0 (suc n) ≡ kidPlaces (placeOf h) (kidsFrom (readTree h w) w (pageOf w p) 0 n) (readTree h w (childIn (pageOf w p) n))
     places n = let e : 0 + n ≡ n = omega arith in rw e at (places-read (readTree h w) (placeOf h) (place-read h w) w (pageOf w p) 0 n)
@@ -114,7 +115,7 @@ held-read (suc h) w t g s =
     let ws = pageOf w (t .place) in
     let n = g .0 .fill-is in
     let q = kids-same h w ws 0 (t .kids) (t .last) (subst (λ m. childrenFrom ws 0 (suc m) ≡ kidPlaces (placeOf h) (t .kids) (t .last)) n (g .0 .children-are))
-        (subst (λ m. KeysHeld w (keysFrom ws 0 m) (t .kids)) n (g .0 .keys-held)) (s .0) (every-read h w (λ u x y. held-read h w u x y) (t .kids) (t .last) (g .1) (s .1)) in
+    (subst (λ m. KeysHeld w (keysFrom ws 0 m) (t .kids)) n (g .0 .keys-held)) (s .0) (every-read h w (λ u x y. held-read h w u x y) (t .kids) (t .last) (g .1) (s .1)) in
     let z : 0 + length (t .kids) ≡ length (t .kids) = omega arith in
     let last : readTree h w (childIn ws (fillOf ws)) ≡ t .last = ap (λ m. readTree h w (childIn ws m)) (n ∙ sym z) ∙ q .1 in
     let kids : kidsFrom (readTree h w) w ws 0 (fillOf ws) ≡ t .kids = ap (λ m. kidsFrom (readTree h w) w ws 0 m) n ∙ q .0 in

@@ -142,17 +142,23 @@ module _ (shares : List ℕ) (sixteen : length shares ≡ 16) where
   pub opened-valid : sum shares ≤ 500 → valid (openedImage shares) ≡ true
   unfolding valid sized
   opened-valid h =
-      rw
-      (eq-yes (length (openedImage shares)) 12288 opened-long, at-bare (λ h t. treeRules h t ≡ true) (bare-rules 1), opened-rule6 h,
-      at-bare (λ h t. rule7 (openedImage shares) h t ≡ true) opened-rule7, opened-head .1)
+      rw (
+        eq-yes (length (openedImage shares)) 12288 opened-long,
+        at-bare (λ h t. treeRules h t ≡ true) (bare-rules 1),
+        opened-rule6 h,
+        at-bare (λ h t. rule7 (openedImage shares) h t ≡ true) opened-rule7,
+        opened-head .1,
+      )
 
 -- ONE RESULT: two results that the promise allows are equal
 pub opens-once : (w shares : List ℕ) (m n : ℕ) (u v : List ℕ) → OpensSet w shares m u → OpensSet w shares n v → (m ≡ n) × (u ≡ v)
 opens-once w shares m n u v a b =
-    let e : m ≡ n = a .number-is ∙ sym (b .number-is) in
-    (e, by-test (eqb m 0)
-    (λ t. let z = eq-of m 0 t in a .done z ∙ sym (b .done (sym e ∙ z)))
-    (λ t. let z = ne-of m 0 t in a .refused z ∙ sym (b .refused (λ q. z (e ∙ q)))))
+    let e : m ≡ n = a .number-is ∙ sym (b .number-is) in (
+      e,
+      by-test (eqb m 0)
+          (λ t. let z = eq-of m 0 t in a .done z ∙ sym (b .done (sym e ∙ z)))
+          (λ t. let z = ne-of m 0 t in a .refused z ∙ sym (b .refused (λ q. z (e ∙ q)))),
+    )
 
 tests-0 : (a b : Bool) → _≡_ {A = ℕ} 0 (cond a (cond b 8 0) 1) → b ≡ false
 tests-0 true true e = absurd (let z : _≡_ {A = ℕ} 0 8 = e in omega arith)

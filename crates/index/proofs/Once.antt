@@ -25,17 +25,19 @@ either-way m n e f g =
 -- of saves and deletes the number and the meaning; a refusal fixes every word
 pub saves-once : (w : List ℕ) (a : ℕ) (r : Region) (m n : ℕ) (u v : List ℕ) → Saves w a r m u → Saves w a r n v → (m ≡ n) × (setOf u ≡ setOf v) × ((m ≡ 0 → ⊥) → u ≡ v)
 saves-once w a r m n u v x y =
-    let e : m ≡ n = x .number-is ∙ sym (y .number-is) in
-    (e,
-    either-way m n e (λ p q. x .done p .1 ∙ sym (y .done q .1)) (λ p q. ap setOf (x .refused p ∙ sym (y .refused q))),
-    (λ p. x .refused p ∙ sym (y .refused (λ q. p (e ∙ q)))))
+    let e : m ≡ n = x .number-is ∙ sym (y .number-is) in (
+      e,
+      either-way m n e (λ p q. x .done p .1 ∙ sym (y .done q .1)) (λ p q. ap setOf (x .refused p ∙ sym (y .refused q))),
+      (λ p. x .refused p ∙ sym (y .refused (λ q. p (e ∙ q)))),
+    )
 
 pub deletes-once : (w : List ℕ) (a s : ℕ) (m n : ℕ) (u v : List ℕ) → Deletes w a s m u → Deletes w a s n v → (m ≡ n) × (setOf u ≡ setOf v) × ((m ≡ 0 → ⊥) → u ≡ v)
 deletes-once w a s m n u v x y =
-    let e : m ≡ n = x .number-is ∙ sym (y .number-is) in
-    (e,
-    either-way m n e (λ p q. x .done p .1 ∙ sym (y .done q .1)) (λ p q. ap setOf (x .refused p ∙ sym (y .refused q))),
-    (λ p. x .refused p ∙ sym (y .refused (λ q. p (e ∙ q)))))
+    let e : m ≡ n = x .number-is ∙ sym (y .number-is) in (
+      e,
+      either-way m n e (λ p q. x .done p .1 ∙ sym (y .done q .1)) (λ p q. ap setOf (x .refused p ∙ sym (y .refused q))),
+      (λ p. x .refused p ∙ sym (y .refused (λ q. p (e ∙ q)))),
+    )
 
 pub ancestors-once : (w : List ℕ) (a p : ℕ) (out : List ℕ) (m n s t i j : ℕ) (u v : List ℕ) → FindsAncestors w a p out m s i u → FindsAncestors w a p out n t j v
     → (m ≡ n) × (s ≡ t) × (i ≡ j) × (u ≡ v)

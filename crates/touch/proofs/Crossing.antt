@@ -93,9 +93,9 @@ module _ (r : Region) (long : r .start < r .end) where
       let a : (x .start < r .start → ⊥) = (λ l. let b = m .not-around l in let u = c .around (reaches-says (r .start) x .so-yes (l, m .reach-back)) in omega arith) in
       let d = c .away in
       let f : (r .start < x .start → ⊥) =
-          (λ l. let b = m .not-in l in
-          let g : x .start < r .end = (let z : (x .start ≡ r .end → ⊥) = d in let q = m .reach in omega arith) in
-          let u = c .within (reaches-says (r .end) x .so-yes (g, b)) in omega arith) in
+      (λ l. let b = m .not-in l in
+      let g : x .start < r .end = (let z : (x .start ≡ r .end → ⊥) = d in let q = m .reach in omega arith) in
+      let u = c .within (reaches-says (r .end) x .so-yes (g, b)) in omega arith) in
       n (omega arith))
 
   nests-clear : (x : Region) → x .start < x .end → crosses r x ≡ false → Clear x
@@ -149,7 +149,7 @@ crossing-test S r h k w long free =
         let ends = unfiltered (reaches (r .start)) (λ (x : Region). r .end < x .end) (S .regions) a in
         let starts = unfiltered (reaches (r .end)) (λ (x : Region). x .start ≤ r .start) (S .regions) f in
         let clear = all-two {R = Clear r long}
-            (λ x m n. record { around = m .0; away = m .1; within = n }) (S .regions)
-            (all-two {R = λ x. (T (reaches (r .start) x) → r .end < x .end) × (x .start ≡ r .end → ⊥)} (λ x m n. (m, (λ q. false-so (at-says (r .end) x) n q))) (S .regions) ends b) starts in
+        (λ x m n. record { around = m .0; away = m .1; within = n }) (S .regions)
+        (all-two {R = λ x. (T (reaches (r .start) x) → r .end < x .end) × (x .start ≡ r .end → ⊥)} (λ x m n. (m, (λ q. false-so (at-says (r .end) x) n q))) (S .regions) ends b) starts in
         none-some _ (filter-none (crosses r) (S .regions)
         (all-two {R = λ x. crosses r x ≡ false} (λ x m n. clear-nests r long x (m .0) (m .1) n) (S .regions) (all-two {R = λ (x : Region). (x .start < x .end) × (x .start ≡ r .start → ⊥)} (λ x m n. (m, n)) (S .regions) w free-all) clear))

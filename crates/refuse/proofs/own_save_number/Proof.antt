@@ -18,7 +18,7 @@ well-formed-requires : tie.Need-well-formed-requires
 well-formed-requires c κs = search needs
 
 returns : tie.Need-returns
-returns c = save-region (setOf (now (c .before .before .before .args .img))) _ _  (sym (c .before .well-formed .ensures) ∙ not-true (c .before .well-formed .result) (c .if1 .taken))
+returns c = save-region (setOf (now (c .before .before .before .args .img))) _ _ (sym (c .before .well-formed .ensures) ∙ not-true (c .before .well-formed .result) (c .if1 .taken))
 
 foreign-requires : tie.Need-foreign-requires
 foreign-requires c κs = search needs

@@ -1,7 +1,6 @@
 -- `mend_page` mends the child on x's way with a neighbour, where it holds three.
 -- Assumes nothing.
 use borrow.Author.Needs.{needs}
-use native.Mathlib.Omega.{arith}
 use mathlib.Core.Path.{_∙_}
 use Rattle.remove.proofs.Turns.{thin-few, thin-index, thin-kept, as-left, one-before, as-right}
 use Rattle.remove.proofs.mend_page.Statement.{statement}
