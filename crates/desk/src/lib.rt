@@ -195,7 +195,8 @@ fn asked_of(s: Seat, count: u32) -> u32
     match st {
         State::Closed => 9,
         State::Open(o) => {
-            if o.limit < count {
+            let limit = o.limit;
+            if limit < count {
                 return 10;
             }
             0
@@ -274,6 +275,13 @@ pub struct Turn {
     pub counts: [u32; 8],
 }
 
+// How many pairs an open seat is handed in a turn, at most.
+fn pairs_a_turn(o: Open) -> usize
+    ensures { λ r. ⌜ r ≡ o .limit ⌝ }
+{
+    o.limit as usize
+}
+
 // Hands an open seat its next pairs: its part of the buffer, as long as its limit, is lent on to the join's writer, which tells how many it wrote.
 fn hand(outer: &[u32], inner: &[u32], o: Open, buffer: &mut [u32], i: usize) -> usize
     requires { ⌜ MayTurn (now outer) (now inner) (openAt o) (now buffer) i ⌝ }
@@ -282,7 +290,7 @@ fn hand(outer: &[u32], inner: &[u32], o: Open, buffer: &mut [u32], i: usize) -> 
     let kind = o.kind;
     let mark = o.mark;
     let a = 128 * i;
-    let e = a + 4 * (o.limit as usize);
+    let e = a + 4 * pairs_a_turn(o);
     join::pairs_past(
         outer,
         inner,

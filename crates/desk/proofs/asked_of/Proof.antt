@@ -18,7 +18,7 @@ enum-known-st c = search needs
 
 returns : tie.Need-returns
 unfolding firstNo stateOpen stateLimit
-returns c = sym (ap (λ (x : State). askedNo x (c .before .before .before .before .before .args .count)) (c .before .before .before .st .given .1) ∙ simp (lt-ltb _ _ (c .if1 .taken)))
+returns c = sym (ap (λ (x : State). askedNo x (c .before .before .before .before .args .count)) (c .before .before .st .given .1) ∙ simp (lt-ltb _ _ (c .if1 .taken)))
 
 returns-2 : tie.Need-returns-2
 unfolding firstNo stateOpen stateLimit
@@ -26,7 +26,7 @@ returns-2 c = sym (ap (λ (x : State). askedNo x (c .before .before .args .count
 
 returns-3 : tie.Need-returns-3
 unfolding firstNo stateOpen stateLimit
-returns-3 c = sym (ap (λ (x : State). askedNo x (c .before .before .before .before .before .args .count)) (c .before .before .before .st .given .1) ∙ simp (le-ltb _ _ (c .if1 .left)))
+returns-3 c = sym (ap (λ (x : State). askedNo x (c .before .before .before .before .args .count)) (c .before .before .st .given .1) ∙ simp (le-ltb _ _ (c .if1 .left)))
 
 pub asked-of-spec : {M : Type 1} → statement M
 asked-of-spec = tie.close (tie.spec enum-told enum-known-st returns returns-2 returns-3)

@@ -12,8 +12,8 @@ use Rattle.desk.proofs.hand.Tie as tie
 mul-a : tie.Need-mul-a
 mul-a c = search needs
 
-cast-e : tie.Need-cast-e
-cast-e c = search needs
+pairs-a-turn-requires : tie.Need-pairs-a-turn-requires
+pairs-a-turn-requires c κs = search needs
 
 mul-e : tie.Need-mul-e
 mul-e c = search needs
@@ -31,7 +31,7 @@ part-pairs-past-start : tie.Need-part-pairs-past-start
 part-pairs-past-start c = search needs
 
 part-pairs-past-end : tie.Need-part-pairs-past-end
-part-pairs-past-end c = let m = c .before .before .before .before .pre in let e = m .words in let l = m .seat in let h = open-ok (c .before .before .before .before .args .o) (m .fits) .high in search needs
+part-pairs-past-end c = let m = c .before .before .before .before .pre in let e = m .words in let l = m .seat in let h = open-ok (c .before .before .before .before .args .o) (m .fits) .high in let r = c .pairs-a-turn .ensures in search needs
 
 pairs-past-requires : tie.Need-pairs-past-requires
 pairs-past-requires c κs = let m = c .before .before .before .before .before .pre in (T-of (m .outer-valid), (T-of (m .inner-valid), open-ok (c .before .before .before .before .before .args .o) (m .fits) .range))
@@ -40,14 +40,14 @@ same-length : tie.Need-same-length
 same-length c = search needs
 
 returns : tie.Need-returns
-returns c = let m = c .before .before .before .before .before .before .before .before .pre in let o = c .before .before .before .before .before .before .before .before .args .o in let i = c .before .before .before .before .before .before .before .before .args .i in hands _ _ o (c .before .before .before .before .before .before .before .before .args .buffer .now) i ((128 * i + 4 * o .limit) - 128 * i) (c .before .before .pairs-past .result) _ (m .words) (m .seat) (m .fits) (omega arith) (c .before .before .pairs-past .ensures)
+returns c = let m = c .before .before .before .before .before .before .before .before .pre in let i = c .before .before .before .before .before .before .before .before .args .i in let r = c .before .before .before .before .pairs-a-turn .ensures in hands _ _ (c .before .before .before .before .before .before .before .before .args .o) (c .before .before .before .before .before .before .before .before .args .buffer .now) i ((128 * i + 4 * c .before .before .before .before .pairs-a-turn .result) - 128 * i) (c .before .before .pairs-past .result) _ (m .words) (m .seat) (m .fits) (omega arith) (c .before .before .pairs-past .ensures)
 
 pub hand-spec : {M : Type 1} → statement M
 hand-spec =
     tie.close
     (tie.spec
     mul-a
-    cast-e
+    pairs-a-turn-requires
     mul-e
     add-e
     mul-pairs-past
