@@ -18,11 +18,17 @@ use Rattle.image.specs.Valid.{valid}
 use Rattle.search.specs.Tallies.{foundList}
 use Rattle.search.specs.declared.Found.{Found}
 use Rattle.search.specs.declared.Found.the-variants.{Nothing as NotFound, At as FoundAt}
-use Rattle.refuse.proofs.Numbers.{own-number}
 use Rattle.index.specs.Joins.{JoinsSets}
 use Rattle.index.specs.Searches.{stepCount, FindsAncestors, parentNumber, parentFound, FindsParent, Lists}
 use Rattle.index.specs.declared.Parent.{Parent}
 use Rattle.index.specs.declared.Parent.the-variants.{Refused, Nothing, At}
+
+-- IMAGE comes before all else, and only where the image is not valid
+pub image-number : (ok : Bool) (n : ℕ) → ok ≡ false → 1 ≡ imageFirst ok n
+image-number ok n e = rw e
+
+pub own-number : (ok : Bool) (m n : ℕ) → ok ≡ true → m ≡ n → m ≡ imageFirst ok n
+own-number ok m n e f = rw e f
 
 -- ANCESTOR and PARENT SEARCH, by a position
 pub point-foreign : (a p : ℕ) → foreign a p ≡ true → 3 ≡ pointNo a p

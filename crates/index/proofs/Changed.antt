@@ -14,12 +14,16 @@ use Rattle.regions.specs.declared.Region.{Region}
 use Rattle.image.specs.Read.{setOf}
 use Rattle.image.specs.Valid.{valid}
 use Rattle.index.specs.Changes.{Saves, Deletes}
-use Rattle.index.proofs.Answers.{image-right}
+use Rattle.index.proofs.Answers.{image-right, own-number}
 
 -- the call's own number, where neither IMAGE nor it refuses
 pub own-right : (ok : Bool) (n : ℕ) → 0 ≡ imageFirst ok n → n ≡ 0
 own-right true n e = sym e
 own-right false n e = absurd (let z : _≡_ {A = ℕ} 0 1 = e in omega arith)
+
+-- the number of a call on an image that is known to be valid is the call's own
+pub tested-number : (w : List ℕ) (m n : ℕ) → T (valid w) → m ≡ n → m ≡ imageFirst (valid w) n
+tested-number w m n v e = own-number (valid w) m n (of-T (valid w) v) e
 
 -- SAVE
 module _ (w : List ℕ) (a : ℕ) (r : Region) where

@@ -8,7 +8,6 @@ use lib.Dec.{leb}
 use lib.ListN.{getD}
 use native.Mathlib.Omega.{arith}
 use Rattle.words.specs.Lists.{firstNo}
-use Rattle.regions.specs.Numbers.{imageFirst}
 use Rattle.regions.specs.Positions.{wellFormed}
 use Rattle.regions.specs.Sets.{Set, heldAt, crossed, shareOf, heldBy}
 use Rattle.regions.specs.Calls.{foreign, saveNo, deleteNo}
@@ -18,13 +17,6 @@ use Rattle.regions.proofs.Means.{formed-says}
 use Rattle.regions.proofs.Done.{own-of}
 use Rattle.image.specs.Read.{setOf}
 use Rattle.census.proofs.Shares.{share-at}
-
--- IMAGE comes before all else, and only where the image is not valid
-pub image-number : (ok : Bool) (n : ℕ) → ok ≡ false → 1 ≡ imageFirst ok n
-image-number ok n e = rw e
-
-pub own-number : (ok : Bool) (m n : ℕ) → ok ≡ true → m ≡ n → m ≡ imageFirst ok n
-own-number ok m n e f = rw e f
 
 -- SAVE
 module _ (S : Set) (a : ℕ) (r : Region) where

@@ -1,10 +1,9 @@
-// Which test refuses a save or a delete: IMAGE before all else, then the call's own tests in their order; 0 where the call may go on.
+// Which test refuses a save or a delete of a valid image: the call's own tests in their order; 0 where the call may go on.
 ghost use mathlib.Core.Path.{_≡_};
 ghost use Prim.Native.Nat.{_≤_, _<_};
 ghost use lib.Dec.{T, leb};
 ghost use lib.ListN.{getD};
 ghost use Rattle.regions.specs.Sets.{heldAt, shareOf, heldBy, crossed};
-ghost use Rattle.regions.specs.Numbers.{imageFirst};
 ghost use Rattle.regions.specs.Calls.{saveNo, deleteNo};
 ghost use Rattle.image.specs.Read.{setOf};
 ghost use Rattle.image.specs.Valid.{valid};
@@ -30,8 +29,8 @@ fn is_full(img: &[u32], account: u32, held: [u32; 16]) -> bool
     share <= held[a]
 }
 
-// Of a save into a valid image.
-fn own_save_number(img: &[u32], account: u32, r: Region, held: [u32; 16]) -> u32
+// Of a save; the account's held regions have been counted.
+pub fn save_number(img: &[u32], account: u32, r: Region, held: [u32; 16]) -> u32
     requires { ⌜ T (valid (now img)) ⌝ }
     requires { ⌜ (account < 16 → getD held account 0 ≡ heldBy account (setOf (now img))) ⌝ }
     ensures { λ n. ⌜ n ≡ saveNo (setOf (now (img .entry))) account r ⌝ }
@@ -54,24 +53,10 @@ fn own_save_number(img: &[u32], account: u32, r: Region, held: [u32; 16]) -> u32
     0
 }
 
-pub fn save_number(img: &[u32], account: u32, r: Region) -> u32
-    ensures { λ n. ⌜ n ≡ imageFirst (valid (now (img .entry))) (saveNo (setOf (now (img .entry))) account r) ⌝ }
-{
-    let report = audit::audit(img);
-    let held = report.held;
-    if !report.ok {
-        return 1;
-    }
-    own_save_number(img, account, r, held)
-}
-
 pub fn delete_number(img: &[u32], account: u32, start: u32) -> u32
-    ensures { λ n. ⌜ n ≡ imageFirst (valid (now (img .entry))) (deleteNo (setOf (now (img .entry))) account start) ⌝ }
+    requires { ⌜ T (valid (now img)) ⌝ }
+    ensures { λ n. ⌜ n ≡ deleteNo (setOf (now (img .entry))) account start ⌝ }
 {
-    let report = audit::audit(img);
-    if !report.ok {
-        return 1;
-    }
     if regions::foreign(account, start) {
         return 3;
     }

@@ -5,8 +5,7 @@ use mathlib.Core.Path.{sym, _∙_}
 use denote.Ref.{now}
 use native.Mathlib.Omega.{arith}
 use Rattle.words.proofs.Tests.{T-of, not-true, not-false}
-use Rattle.refuse.proofs.Numbers.{image-number, own-number}
-use Rattle.index.proofs.Answers.{bounds-wrong, bounds-foreign, bounds-own}
+use Rattle.index.proofs.Answers.{image-number, own-number, bounds-wrong, bounds-foreign, bounds-own}
 use Rattle.index.proofs.bounds_number.Statement.{statement}
 use Rattle.index.proofs.bounds_number.Tie as tie
 use Rattle.index.proofs.is_valid.Reads as is-valid-reads

@@ -2,32 +2,34 @@
 -- Assumes nothing.
 use borrow.Author.Needs.{needs}
 use mathlib.Core.Path.{sym, _∙_}
-use denote.Ref.{now}
-use Rattle.index.proofs.Changed.{delete-refused, delete-may, delete-done}
+use native.Mathlib.Omega.{arith}
+use Rattle.words.proofs.Tests.{T-of, not-true, not-false}
+use Rattle.index.proofs.Answers.{image-number}
+use Rattle.index.proofs.Changed.{delete-refused}
 use Rattle.index.proofs.delete.Statement.{statement}
 use Rattle.index.proofs.delete.Tie as tie
-use Rattle.remove.proofs.remove.Reads as remove-reads
-use Rattle.refuse.proofs.delete_number.Reads as delete-number-reads
+use Rattle.index.proofs.is_valid.Reads as is-valid-reads
+use Rattle.index.proofs.delete_tested.Reads as delete-tested-reads
 
-delete-number-requires : tie.Need-delete-number-requires
-delete-number-requires c κs = search needs
+is-valid-requires : tie.Need-is-valid-requires
+is-valid-requires c κs = search needs
 
 same-length : tie.Need-same-length
 same-length c = search needs
 
 returns : tie.Need-returns
-returns c = delete-refused _ _ _ _ (c .if1 .taken) (c .before .delete-number .ensures)
+returns c = delete-refused _ _ _ 1 (λ z. omega (arith, z)) (image-number _ _ (sym (c .before .is-valid .ensures) ∙ not-true (c .before .is-valid .result) (c .if1 .taken)))
 
-remove-requires : tie.Need-remove-requires
-remove-requires c κs = delete-may _ _ _ (sym (c .before .if1 .left) ∙ c .before .before .delete-number .ensures)
+delete-tested-requires : tie.Need-delete-tested-requires
+delete-tested-requires c κs = T-of (sym (c .before .before .is-valid .ensures) ∙ not-false (c .before .before .is-valid .result) (c .before .if1 .left))
 
 same-length-2 : tie.Need-same-length-2
 same-length-2 c = search needs
 
 returns-2 : tie.Need-returns-2
-returns-2 c = delete-done _ _ _ _ (sym (c .before .before .before .before .if1 .left) ∙ c .before .before .before .before .before .delete-number .ensures) (c .before .before .remove .ensures)
+returns-2 c = search needs
 
 pub delete-spec : {M : Type 1} → statement M
 delete-spec =
     tie.close
-    (tie.spec delete-number-requires same-length returns remove-requires same-length-2 returns-2)
+    (tie.spec is-valid-requires same-length returns delete-tested-requires same-length-2 returns-2)

@@ -5,8 +5,7 @@ use mathlib.Core.Path.{sym, _∙_}
 use denote.Ref.{now}
 use native.Mathlib.Omega.{arith}
 use Rattle.words.proofs.Tests.{T-of, not-true, not-false}
-use Rattle.refuse.proofs.Numbers.{image-number, own-number}
-use Rattle.index.proofs.Answers.{point-foreign, parent-refused, parent-none, parent-at, found-none, found-at}
+use Rattle.index.proofs.Answers.{image-number, own-number, point-foreign, parent-refused, parent-none, parent-at, found-none, found-at}
 use Rattle.index.proofs.find_parent.Statement.{statement}
 use Rattle.index.proofs.find_parent.Tie as tie
 use Rattle.index.proofs.is_valid.Reads as is-valid-reads

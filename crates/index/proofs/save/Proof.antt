@@ -2,32 +2,34 @@
 -- Assumes nothing.
 use borrow.Author.Needs.{needs}
 use mathlib.Core.Path.{sym, _∙_}
-use denote.Ref.{now}
-use Rattle.index.proofs.Changed.{save-refused, save-may, save-done}
+use native.Mathlib.Omega.{arith}
+use Rattle.words.proofs.Tests.{T-of, not-true, not-false}
+use Rattle.index.proofs.Answers.{image-number}
+use Rattle.index.proofs.Changed.{save-refused}
 use Rattle.index.proofs.save.Statement.{statement}
 use Rattle.index.proofs.save.Tie as tie
-use Rattle.insert.proofs.insert.Reads as insert-reads
-use Rattle.refuse.proofs.save_number.Reads as save-number-reads
+use Rattle.audit.proofs.audit.Reads as audit-reads
+use Rattle.index.proofs.save_tested.Reads as save-tested-reads
 
-save-number-requires : tie.Need-save-number-requires
-save-number-requires c κs = search needs
+audit-requires : tie.Need-audit-requires
+audit-requires c κs = search needs
 
 same-length : tie.Need-same-length
 same-length c = search needs
 
 returns : tie.Need-returns
-returns c = save-refused _ _ _ _ (c .if1 .taken) (c .before .save-number .ensures)
+returns c = save-refused _ _ _ 1 (λ z. omega (arith, z)) (image-number _ _ (sym (c .before .before .before .audit .ensures .decides) ∙ not-true (c .before .before .before .audit .result .ok) (c .if1 .taken)))
 
-insert-requires : tie.Need-insert-requires
-insert-requires c κs = save-may _ _ _ (sym (c .before .if1 .left) ∙ c .before .before .save-number .ensures)
+save-tested-requires : tie.Need-save-tested-requires
+save-tested-requires c κs = (T-of (sym (c .before .before .before .before .audit .ensures .decides) ∙ not-false (c .before .before .before .before .audit .result .ok) (c .before .if1 .left)), c .before .before .before .before .audit .ensures .counts (sym (c .before .before .before .before .audit .ensures .decides) ∙ not-false (c .before .before .before .before .audit .result .ok) (c .before .if1 .left)) _)
 
 same-length-2 : tie.Need-same-length-2
 same-length-2 c = search needs
 
 returns-2 : tie.Need-returns-2
-returns-2 c = save-done _ _ _ _ (sym (c .before .before .before .before .if1 .left) ∙ c .before .before .before .before .before .save-number .ensures) (c .before .before .insert .ensures)
+returns-2 c = search needs
 
 pub save-spec : {M : Type 1} → statement M
 save-spec =
     tie.close
-    (tie.spec save-number-requires same-length returns insert-requires same-length-2 returns-2)
+    (tie.spec audit-requires same-length returns save-tested-requires same-length-2 returns-2)

@@ -3,24 +3,62 @@
 use borrow.Author.Needs.{needs}
 use mathlib.Core.Path.{sym, _∙_}
 use denote.Ref.{now}
-use Rattle.words.proofs.Tests.{T-of, not-true, not-false}
-use Rattle.refuse.proofs.Numbers.{image-number, own-number}
+use Rattle.words.proofs.Tests.{not-true, not-false}
+use Rattle.image.specs.Read.{setOf}
+use Rattle.refuse.proofs.Numbers.{save-region, save-foreign, save-held, save-cross, save-share, save-goes, formed-order, own-low}
 use Rattle.refuse.proofs.save_number.Statement.{statement}
 use Rattle.refuse.proofs.save_number.Tie as tie
-use Rattle.audit.proofs.audit.Reads as audit-reads
-use Rattle.refuse.proofs.own_save_number.Reads as own-save-number-reads
+use Rattle.refuse.proofs.is_full.Reads as is-full-reads
+use Rattle.refuse.proofs.is_held.Reads as is-held-reads
+use Rattle.regions.proofs.foreign.Reads as foreign-reads
+use Rattle.regions.proofs.well_formed.Reads as well-formed-reads
+use Rattle.touch.proofs.crosses_held.Reads as crosses-held-reads
 
-audit-requires : tie.Need-audit-requires
-audit-requires c κs = search needs
+well-formed-requires : tie.Need-well-formed-requires
+well-formed-requires c κs = search needs
 
 returns : tie.Need-returns
-returns c = image-number _ _ (sym (c .before .before .before .audit .ensures .decides) ∙ not-true (c .before .before .before .audit .result .ok) (c .if1 .taken))
+returns c = save-region (setOf (now (c .before .before .before .args .img))) _ _ (sym (c .before .well-formed .ensures) ∙ not-true (c .before .well-formed .result) (c .if1 .taken))
 
-own-save-number-requires : tie.Need-own-save-number-requires
-own-save-number-requires c κs = (T-of (sym (c .before .before .before .audit .ensures .decides) ∙ not-false (c .before .before .before .audit .result .ok) (c .if1 .left)), c .before .before .before .audit .ensures .counts (sym (c .before .before .before .audit .ensures .decides) ∙ not-false (c .before .before .before .audit .result .ok) (c .if1 .left)) _)
+foreign-requires : tie.Need-foreign-requires
+foreign-requires c κs = search needs
 
 returns-2 : tie.Need-returns-2
-returns-2 c = own-number _ _ _ (sym (c .before .before .before .before .audit .ensures .decides) ∙ not-false (c .before .before .before .before .audit .result .ok) (c .before .if1 .left)) (c .own-save-number .ensures)
+returns-2 c = save-foreign (setOf (now (c .before .before .before .before .before .args .img))) _ _ (sym (c .before .before .before .well-formed .ensures) ∙ not-false (c .before .before .before .well-formed .result) (c .before .before .if1 .left)) (sym (c .before .foreign .ensures) ∙ c .if2 .taken)
+
+is-held-requires : tie.Need-is-held-requires
+is-held-requires c κs = search needs
+
+returns-3 : tie.Need-returns-3
+returns-3 c = save-held (setOf (now (c .before .before .before .before .before .before .before .args .img))) _ _ (sym (c .before .before .before .before .before .well-formed .ensures) ∙ not-false (c .before .before .before .before .before .well-formed .result) (c .before .before .before .before .if1 .left)) (sym (c .before .before .before .foreign .ensures) ∙ c .before .before .if2 .left) (sym (c .before .is-held .ensures) ∙ c .if3 .taken)
+
+crosses-held-requires : tie.Need-crosses-held-requires
+crosses-held-requires c κs = (c .before .before .before .before .before .before .before .pre .0, (formed-order _ (sym (c .before .before .before .before .before .well-formed .ensures) ∙ not-false (c .before .before .before .before .before .well-formed .result) (c .before .before .before .before .if1 .left)), (sym (c .before .is-held .ensures) ∙ c .if3 .left)))
+
+returns-4 : tie.Need-returns-4
+returns-4 c = save-cross (setOf (now (c .before .before .before .before .before .before .before .before .before .args .img))) _ _ (sym (c .before .before .before .before .before .before .before .well-formed .ensures) ∙ not-false (c .before .before .before .before .before .before .before .well-formed .result) (c .before .before .before .before .before .before .if1 .left)) (sym (c .before .before .before .before .before .foreign .ensures) ∙ c .before .before .before .before .if2 .left) (sym (c .before .before .before .is-held .ensures) ∙ c .before .before .if3 .left) (sym (c .before .crosses-held .ensures) ∙ c .if4 .taken)
+
+is-full-requires : tie.Need-is-full-requires
+is-full-requires c κs = (c .before .before .before .before .before .before .before .before .before .pre .0, (own-low _ _ (sym (c .before .before .before .before .before .foreign .ensures) ∙ c .before .before .before .before .if2 .left), c .before .before .before .before .before .before .before .before .before .pre .1 (own-low _ _ (sym (c .before .before .before .before .before .foreign .ensures) ∙ c .before .before .before .before .if2 .left))))
+
+returns-5 : tie.Need-returns-5
+returns-5 c = save-share (setOf (now (c .before .before .before .before .before .before .before .before .before .before .before .args .img))) _ _ (sym (c .before .before .before .before .before .before .before .before .before .well-formed .ensures) ∙ not-false (c .before .before .before .before .before .before .before .before .before .well-formed .result) (c .before .before .before .before .before .before .before .before .if1 .left)) (sym (c .before .before .before .before .before .before .before .foreign .ensures) ∙ c .before .before .before .before .before .before .if2 .left) (sym (c .before .before .before .before .before .is-held .ensures) ∙ c .before .before .before .before .if3 .left) (sym (c .before .before .before .crosses-held .ensures) ∙ c .before .before .if4 .left) (sym (c .before .is-full .ensures) ∙ c .if5 .taken)
+
+returns-6 : tie.Need-returns-6
+returns-6 c = save-goes (setOf (now (c .before .before .before .before .before .before .before .before .before .before .before .args .img))) _ _ (sym (c .before .before .before .before .before .before .before .before .before .well-formed .ensures) ∙ not-false (c .before .before .before .before .before .before .before .before .before .well-formed .result) (c .before .before .before .before .before .before .before .before .if1 .left)) (sym (c .before .before .before .before .before .before .before .foreign .ensures) ∙ c .before .before .before .before .before .before .if2 .left) (sym (c .before .before .before .before .before .is-held .ensures) ∙ c .before .before .before .before .if3 .left) (sym (c .before .before .before .crosses-held .ensures) ∙ c .before .before .if4 .left) (sym (c .before .is-full .ensures) ∙ c .if5 .left)
 
 pub save-number-spec : {M : Type 1} → statement M
-save-number-spec = tie.close (tie.spec audit-requires returns own-save-number-requires returns-2)
+save-number-spec =
+    tie.close
+    (tie.spec
+    well-formed-requires
+    returns
+    foreign-requires
+    returns-2
+    is-held-requires
+    returns-3
+    crosses-held-requires
+    returns-4
+    is-full-requires
+    returns-5
+    returns-6)

@@ -1,0 +1,5 @@
+pub mod Digits
+pub mod Runs
+pub mod Written
+pub mod Lined
+pub mod Putting

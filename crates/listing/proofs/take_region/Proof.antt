@@ -1,0 +1,64 @@
+-- `listing::take_region` meets its contract.
+-- Assumes nothing.
+use borrow.Author.Needs.{needs}
+use mathlib.Core.Path.{sym, _∙_}
+use native.Mathlib.Omega.{arith}
+use denote.Ref.{now}
+use Rattle.words.proofs.Tests.{not-true, not-false}
+use Rattle.listing.proofs.Regions.{takes-form, takes-refused, takes-room, takes-done}
+use Rattle.listing.proofs.take_region.Statement.{statement}
+use Rattle.listing.proofs.take_region.Tie as tie
+use Rattle.index.proofs.save_tested.Reads as save-tested-reads
+use Rattle.listing.proofs.counted.Reads as counted-reads
+use Rattle.listing.proofs.not_taken.Reads as not-taken-reads
+use Rattle.listing.proofs.read_region.Reads as read-region-reads
+use Rattle.regions.proofs.account_of.Reads as account-of-reads
+
+read-region-requires : tie.Need-read-region-requires
+read-region-requires c κs = search needs
+
+not-taken-requires : tie.Need-not-taken-requires
+not-taken-requires c κs = search needs
+
+returns : tie.Need-returns
+returns c = takes-form _ _ (now (c .before .before .before .before .before .before .args .img)) _ _ (c .before .before .before .before .before .before .pre .1 .0) _ _ _ _ (not-true (c .before .before .before .read-region .result .ok) (c .before .if1 .taken)) (c .before .before .before .read-region .ensures) (c .not-taken .ensures .0)
+
+account-of-requires : tie.Need-account-of-requires
+account-of-requires c κs = search needs
+
+save-tested-requires : tie.Need-save-tested-requires
+save-tested-requires c κs = (c .before .before .before .before .before .before .before .before .pre .1 .0, c .before .before .before .before .before .before .before .before .pre .1 .1 .1 _)
+
+not-taken-requires-2 : tie.Need-not-taken-requires-2
+not-taken-requires-2 c κs = search needs
+
+same-length : tie.Need-same-length
+same-length c = search needs
+
+returns-2 : tie.Need-returns-2
+returns-2 c = takes-refused _ _ (now (c .before .before .before .before .before .before .before .before .before .before .before .before .before .args .img)) _ _ (c .before .before .before .before .before .before .before .before .before .before .before .before .before .pre .1 .0) _ (not-false (c .before .before .before .before .before .before .before .before .before .before .read-region .result .ok) (c .before .before .before .before .before .before .before .before .if1 .left)) (c .before .before .before .before .before .before .before .before .before .before .read-region .ensures) _ (c .before .before .before .before .before .before .account-of .ensures) _ _ _ _ _ (c .before .before .before .before .save-tested .ensures) (c .before .if2 .taken) (c .not-taken2 .ensures .0)
+
+counted-requires : tie.Need-counted-requires
+counted-requires c κs = takes-room _ _ (now (c .before .before .before .before .before .before .before .before .before .before .before .before .args .img)) _ _ (c .before .before .before .before .before .before .before .before .before .before .before .before .pre .1 .0) _ (not-false (c .before .before .before .before .before .before .before .before .before .read-region .result .ok) (c .before .before .before .before .before .before .before .if1 .left)) (c .before .before .before .before .before .before .before .before .before .read-region .ensures) _ (c .before .before .before .before .before .account-of .ensures) _ (c .before .before .before .before .before .before .before .before .before .before .before .before .args .held) _ (c .before .before .before .save-tested .ensures) (c .if2 .left) (c .before .before .before .before .before .before .before .before .before .before .before .before .pre .1 .1)
+
+same-length-2 : tie.Need-same-length-2
+same-length-2 c = search needs
+
+returns-3 : tie.Need-returns-3
+returns-3 c = takes-done _ _ (now (c .before .before .before .before .before .before .before .before .before .before .before .before .before .args .img)) _ _ (c .before .before .before .before .before .before .before .before .before .before .before .before .before .pre .1 .0) _ (not-false (c .before .before .before .before .before .before .before .before .before .before .read-region .result .ok) (c .before .before .before .before .before .before .before .before .if1 .left)) (c .before .before .before .before .before .before .before .before .before .before .read-region .ensures) _ (c .before .before .before .before .before .before .account-of .ensures) _ (c .before .before .before .before .before .before .before .before .before .before .before .before .before .args .held) _ _ (c .before .before .before .before .save-tested .ensures) (c .before .if2 .left) (c .before .before .before .before .before .before .before .before .before .before .before .before .before .pre .1 .1) (c .counted .ensures)
+
+pub take-region-spec : {M : Type 1} → statement M
+take-region-spec =
+    tie.close
+    (tie.spec
+    read-region-requires
+    not-taken-requires
+    returns
+    account-of-requires
+    save-tested-requires
+    not-taken-requires-2
+    same-length
+    returns-2
+    counted-requires
+    same-length-2
+    returns-3)
