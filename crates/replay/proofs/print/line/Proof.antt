@@ -1,0 +1,89 @@
+-- `replay::print::line` is safe and ends.
+-- Assumes nothing.
+use borrow.Author.Needs.{needs}
+use Prim.Native.Nat.{_-_, _*_, _≤_}
+use mathlib.Core.Path.{_≡_}
+use native.Mathlib.Omega.{arith}
+use lib.ListN.{length, length-take}
+use Rattle.replay.proofs.print.line.Statement.{statement}
+use Rattle.replay.proofs.print.line.Tie as tie
+use Rattle.io.proofs.write_all.Reads as write-all-reads
+use Rattle.lines.proofs.put_number.Reads as put-number-reads
+use Rattle.replay.proofs.print.behind.Reads as behind-reads
+
+abbrev Inv-loop : tie.InvT-loop
+Inv-loop numbers text₀ n at₀ i₀ text at i = (i ≤ n) × (at ≤ 11 * i) × (length text ≡ 99)
+
+abbrev μ-loop : tie.MeasureT-loop
+μ-loop numbers text₀ n at₀ i₀ text at i = n - i
+
+loop-holds : tie.Need-loop-holds Inv-loop μ-loop
+loop-holds c = search needs
+
+slice-aggregate-put-number : tie.Need-slice-aggregate-put-number Inv-loop μ-loop
+slice-aggregate-put-number c = search needs
+
+mul-put-number : tie.Need-mul-put-number Inv-loop μ-loop
+mul-put-number c = search needs
+
+shared-slice-read-put-number : tie.Need-shared-slice-read-put-number Inv-loop μ-loop
+shared-slice-read-put-number c = search needs
+
+put-number-requires : tie.Need-put-number-requires Inv-loop μ-loop
+put-number-requires c κs = search needs
+
+sub-behind : tie.Need-sub-behind Inv-loop μ-loop
+sub-behind c = search needs
+
+behind-requires : tie.Need-behind-requires Inv-loop μ-loop
+behind-requires c κs = search needs
+
+array-write-text : tie.Need-array-write-text Inv-loop μ-loop
+array-write-text c = search needs
+
+add-at : tie.Need-add-at Inv-loop μ-loop
+add-at c = search needs
+
+add-i : tie.Need-add-i Inv-loop μ-loop
+add-i c = search needs
+
+loop-less : tie.Need-loop-less Inv-loop μ-loop
+loop-less c = search needs
+
+loop-again : tie.Need-loop-again Inv-loop μ-loop
+loop-again c = search needs
+
+array-share-prefix-text : tie.Need-array-share-prefix-text Inv-loop μ-loop
+array-share-prefix-text c = search needs
+
+slice-aggregate-write-all : tie.Need-slice-aggregate-write-all Inv-loop μ-loop
+slice-aggregate-write-all c = simp length-take (omega arith)
+
+write-all-requires : tie.Need-write-all-requires Inv-loop μ-loop
+write-all-requires c κs = search needs
+
+returns : tie.Need-returns Inv-loop μ-loop
+returns c = search needs
+
+pub line-spec : {M : Type 1} → statement M
+line-spec =
+    tie.close
+    (tie.spec
+    Inv-loop
+    μ-loop
+    loop-holds
+    slice-aggregate-put-number
+    mul-put-number
+    shared-slice-read-put-number
+    put-number-requires
+    sub-behind
+    behind-requires
+    array-write-text
+    add-at
+    add-i
+    loop-less
+    loop-again
+    array-share-prefix-text
+    slice-aggregate-write-all
+    write-all-requires
+    returns)

@@ -1,0 +1,151 @@
+// The calls on images, each with the numbers of its line and its answer printed.
+ghost use Prim.Native.Nat.{_≤_};
+ghost use lib.ListN.{length};
+use crate::print;
+use crate::script;
+use crate::script::Numbers;
+use crate::seats;
+use index::Parent;
+use regions::Region;
+
+// The smaller of a size and what there is.
+pub fn least(n: usize, most: usize) -> usize
+    ensures { λ r. ⌜ r ≤ most ⌝ }
+{
+    if n < most { n } else { most }
+}
+
+// How many words so many rows of four take, where only those that fit a room are written.
+fn written(rows: usize, room: usize) -> usize
+    ensures { λ r. ⌜ r ≤ room ⌝ }
+{
+    4 * least(rows, room / 4)
+}
+
+fn open(img: &mut [u32], n: Numbers) {
+    let mut shares = [0u32; 16];
+    let mut a: usize = 0;
+    while a < 16 {
+        shares[a] = n[1 + a];
+        a += 1;
+    }
+    print::line(&[index::open_set(img, shares)]);
+}
+
+fn save(img: &mut [u32], n: Numbers) {
+    let r = Region {
+        start: n[2],
+        end: n[3],
+        level: n[4],
+        reference: n[5],
+    };
+    print::line(&[index::save(img, n[1], r)]);
+}
+
+fn ancestors(img: &[u32], n: Numbers, answers: &mut [u32]) {
+    let room = least(words::wide(n[3]), answers.len());
+    let r = index::find_ancestors(img, n[1], n[2], &mut answers[0..room]);
+    print::line(&[r.number, print::narrow(r.total)]);
+    let end = written(r.total, room);
+    print::rows(&answers[0..end]);
+}
+
+// The same search with no room, for its step count.
+fn steps(img: &[u32], n: Numbers, answers: &mut [u32]) {
+    let none: usize = 0;
+    let r = index::find_ancestors(img, n[1], n[2], &mut answers[0..none]);
+    print::line(&[r.number, print::narrow(r.total), print::narrow(r.steps)]);
+}
+
+fn parent(img: &[u32], n: Numbers) {
+    let p = index::find_parent(img, n[1], n[2], n[3]);
+    match p {
+        Parent::Refused(number) => print::line(&[number, 0]),
+        Parent::Nothing => print::line(&[0, 0]),
+        Parent::At(r) => print::line(&[0, 1, r.start, r.end, r.level, r.reference]),
+    }
+}
+
+// Whether more remain, as a number.
+fn told(more: bool) -> u32 {
+    if more { 1 } else { 0 }
+}
+
+fn descendants(img: &[u32], n: Numbers, answers: &mut [u32]) {
+    let room = least(words::wide(n[5]), answers.len());
+    let r = index::find_descendants(img, n[1], n[2], n[3], n[4], &mut answers[0..room]);
+    print::line(&[r.number, print::narrow(r.count), told(r.more)]);
+    let end = written(r.count, room);
+    print::rows(&answers[0..end]);
+}
+
+fn children(img: &[u32], n: Numbers, answers: &mut [u32]) {
+    let room = least(words::wide(n[6]), answers.len());
+    let r = index::find_children(img, n[1], n[2], n[3], n[4], n[5], &mut answers[0..room]);
+    print::line(&[r.number, print::narrow(r.count), told(r.more)]);
+    let end = written(r.count, room);
+    print::rows(&answers[0..end]);
+}
+
+// A search in an image.
+fn search(img: &[u32], what: usize, n: Numbers, answers: &mut [u32]) {
+    if what == script::ANCESTORS {
+        ancestors(img, n, answers);
+        return;
+    }
+    if what == script::STEPS {
+        steps(img, n, answers);
+        return;
+    }
+    if what == script::PARENT {
+        parent(img, n);
+        return;
+    }
+    if what == script::DESCENDANTS {
+        descendants(img, n, answers);
+        return;
+    }
+    children(img, n, answers);
+}
+
+// A call on an image.
+pub fn call(img: &mut [u32], what: usize, n: Numbers, answers: &mut [u32]) {
+    if what == script::OPEN {
+        open(img, n);
+        return;
+    }
+    if what == script::SAVE {
+        save(img, n);
+        return;
+    }
+    if what == script::DELETE {
+        print::line(&[index::delete(img, n[1], n[2])]);
+        return;
+    }
+    search(img, what, n, answers);
+}
+
+// The join of two images, which may be one and the same.
+pub fn join(outer: &[u32], inner: &[u32], n: Numbers, answers: &mut [u32]) {
+    let room = least(words::wide(n[4]), answers.len());
+    let kind = seats::kind_of(n[3]);
+    let r = index::join_sets(outer, inner, n[2], kind, &mut answers[0..room]);
+    print::line(&[r.number, print::narrow(r.total)]);
+    let end = written(r.total, room);
+    print::rows(&answers[0..end]);
+}
+
+fn put(img: &mut [u32], at: usize, value: u32) {
+    if at < img.len() {
+        img[at] = value;
+    }
+}
+
+// Writes a word of an image directly.
+pub fn put_word(outer: &mut [u32], inner: &mut [u32], n: Numbers) {
+    if n[0] == 0 {
+        put(outer, words::wide(n[1]), n[2]);
+    } else {
+        put(inner, words::wide(n[1]), n[2]);
+    }
+}
