@@ -1,4 +1,4 @@
--- The desk's calls: their promises. Each fixes the answer and every lent word afterwards, refusals included.
+-- Document 01, "Calls": the desk's calls, their promises. Each fixes the answer and every lent word afterwards, refusals included.
 -- Assumes nothing.
 use Prim.Native.Nat.{ℕ}
 use mathlib.Core.Path.{_≡_}

@@ -102,7 +102,7 @@ pub struct Change {
     pub number: u32,
 }
 
-// Who asks for limit 0 takes the house's.
+// Whoever asks for limit 0 takes the house's.
 fn limit_asked(limit: u32) -> u32
     ensures { λ r. ⌜ r ≡ limitAsked limit ⌝ }
 {
@@ -379,7 +379,7 @@ pub fn round(outer: &[u32], inner: &[u32], desk: &mut [Seat], buffer: &mut [u32]
     }
 }
 
-// THE SAME CALLS, the desk by value: for who has its eight seats in a local. Each lends the local to its call.
+// THE SAME CALLS, the desk by value: for those who have its eight seats in a local. Each lends the local to its call.
 
 // The seats after a call, and its number.
 pub struct Seated {

@@ -18,9 +18,9 @@ use Rattle.regions.specs.Sets.{Set, of, heldBy, shareOf, startsBefore, startsBe
 use Rattle.regions.specs.Calls.{saveNo, deleteNo}
 use Rattle.regions.proofs.Extra.{so-false}
 use Rattle.regions.proofs.Means.{of-says}
-use Rattle.regions.proofs.Local.{Wf}
+use Rattle.regions.specs.Sound.{Wf, Rising, Sound}
 use Rattle.regions.proofs.Done.{save-done}
-use Rattle.regions.proofs.Rising.{Rising, nesting-says, Sound, saved-sound, deleted-sound, few, saved-all, deleted-all, saved-rises, deleted-rises, free-sides}
+use Rattle.regions.proofs.Rising.{nesting-says, saved-sound, deleted-sound, few, saved-all, deleted-all, saved-rises, deleted-rises, free-sides}
 use Rattle.xrtree.specs.Tree.{regions}
 use Rattle.xrtree.specs.Rules.{startsFirst, sharesKept, rule6}
 use Rattle.pages.specs.Layout.{rootOf, sharesOf}

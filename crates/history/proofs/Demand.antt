@@ -23,7 +23,8 @@ use Rattle.regions.specs.Calls.{saveNo, pointNo, boundsNo, joinNo, ancestors, p
 use Rattle.regions.specs.Desk.{closed, openAt, seatAt, isOpen, stateHanded, stateTurned, turned, handedWords, countHanded, counts, poured, partNo, part}
 use Rattle.regions.proofs.Done.{save-done, done-save, point-done, bounds-done, part-done}
 use Rattle.regions.proofs.Local.{crossed-local, ancestors-local, parent-local, descendants-local, children-local}
-use Rattle.regions.proofs.Joined.{Ascending, joined-ascends, past-drop}
+use Rattle.regions.specs.Sound.{Ascending}
+use Rattle.regions.proofs.Joined.{joined-ascends, past-drop}
 use Rattle.regions.proofs.Seats.{limit-small, handed-long, handed-fits, poured-long, poured-in, poured-out}
 use Rattle.history.specs.Calls.{Which, State, setOf, Look, Call, Shown, Answer, says, refuses, lists, pages, finds, joins, dealt, handsBack, looked, answer, behindRound, next, Step, Done, Run, callsOf, Opened, shareGiven, byAccount, leftOut, reads, Same, Agree, left, Served, Passed}
 use Rattle.history.specs.Calls.Which.{outer, inner}

@@ -20,9 +20,10 @@ use Rattle.regions.specs.Calls.{foreign, openSetNo, saveNo, deleteNo, pointNo, 
 use Rattle.regions.specs.Desk.{seatFits, deskFits, bufferFits, isOpen, limitOf, closed, opened, seatAt, openSeatNo, closeSeatNo, handedWords, roundNo, partNo}
 use Rattle.regions.proofs.Extra.{first-no}
 use Rattle.regions.proofs.Done.{DeskOk, fits-desk, fits-buffer, open-set-done, save-done, open-seat-done, done-round}
-use Rattle.regions.proofs.Rising.{Sound, empty-sound, saved-sound, deleted-sound, saved-all, deleted-all}
+use Rattle.regions.specs.Sound.{Sound}
+use Rattle.regions.proofs.Rising.{empty-sound, saved-sound, deleted-sound, saved-all, deleted-all}
 use Rattle.regions.proofs.Seats.{opened-fits, closed-fits, seats-each, each-seats, desk-turned, poured-long}
-use Rattle.history.specs.Calls.{Which, State, setOf, withSet, withDesk, Look, Call, Shown, Answer, says, refuses, lists, pages, finds, joins, dealt, looked, answer, noted, behindRound, next, Step, Done, Run, Opened, shareGiven}
+use Rattle.history.specs.Calls.{Which, State, setOf, withSet, withDesk, Look, Call, Shown, Answer, says, refuses, lists, pages, finds, joins, dealt, looked, answer, noted, behindRound, next, Step, Done, Run, Opened, shareGiven, sharesGiven, Fair}
 use Rattle.history.specs.Calls.Which.{outer, inner}
 use Rattle.history.specs.Calls.Look.{ancestorSearch, parentSearch, descendantSearch, childSearch, join}
 use Rattle.history.specs.Calls.Call.{save, delete, look, round, openSeat, closeSeat, askPart, askPartNo}
@@ -62,10 +63,6 @@ pub record Good (so si : List ℕ) (s : State) : Type 0 where
   pub desk-good : DeskOk (s .desk)
   pub words : length (s .buffer) ≡ 1024
   pub notes : length (s .wrote) ≡ 1024
-
-abbrev pub sharesGiven : List ℕ → List ℕ → Which → List ℕ
-sharesGiven so si outer = so
-sharesGiven so si inner = si
 
 -- a save and a delete that are done
 saved-good : (shares : List ℕ) (S : Set) (a : ℕ) (r : Region) → saveNo S a r ≡ 0 → GoodSet shares S → GoodSet shares (saved r S)
@@ -170,9 +167,6 @@ module _ (so si : List ℕ) where
   round-leaves s x y g = rw (round-0 s g)
 
 -- NEVER IMAGE, NEVER DESK
-abbrev pub Fair : ℕ → Type 0
-Fair n = (n ≡ IMAGE → ⊥) × (n ≡ DESK → ⊥)
-
 fair-first : (ts : List (Bool × ℕ)) → All (λ t. Fair (t .1)) ts → Fair (firstNo ts)
 unfolding firstNo
 fair-first [] h = omega arith

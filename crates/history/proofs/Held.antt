@@ -21,7 +21,8 @@ use Rattle.regions.specs.Desk.{seatAt, openSeatNo, closeSeatNo, handedWords, co
 use Rattle.regions.proofs.Extra.{true-so, so-true, so-false}
 use Rattle.regions.proofs.Means.{at-says}
 use Rattle.regions.proofs.Done.{save-done, open-seat-done}
-use Rattle.regions.proofs.Rising.{Rising, Sound, free-sides, few}
+use Rattle.regions.specs.Sound.{Rising, Sound}
+use Rattle.regions.proofs.Rising.{free-sides, few}
 use Rattle.regions.proofs.Seats.{handed-long, poured-in, poured-out}
 use Rattle.history.specs.Calls.{Which, State, setOf, withSet, withDesk, Call, Shown, answer, isWritten, noted, next, Done, Run, Opened}
 use Rattle.history.specs.Calls.Which.{outer, inner}

@@ -33,7 +33,8 @@ use Rattle.history.specs.Calls.Look.{ancestorSearch, parentSearch, desce
 use Rattle.history.specs.Calls.Call.{save, delete, look, round, openSeat, closeSeat, askPart, askPartNo}
 use Rattle.history.specs.Calls.Run.{none, then}
 use Rattle.history.specs.Held.{isWhich, In, isRound}
-use Rattle.history.specs.Long.{Then, Ascending, isPair, reaches, staysOpen, Stays, handedBy, handedIn, toldTo, roundsIn, touches, Quiet}
+use Rattle.regions.specs.Sound.{Then, Ascending}
+use Rattle.history.specs.Long.{isPair, reaches, staysOpen, Stays, handedBy, handedIn, toldTo, roundsIn, touches, Quiet}
 use Rattle.history.proofs.Good.{Good, good-set, good-next, good-reached, round-answer, round-leaves}
 use Rattle.history.proofs.Demand.{after, take-min, words-at}
 use Rattle.history.proofs.Held.{in-all, is-which}

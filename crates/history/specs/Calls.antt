@@ -16,7 +16,7 @@ use Rattle.regions.specs.declared.State.{State as SeatState}
 use Rattle.regions.specs.declared.State.the-variants.{Closed, Open as Serving}
 use Rattle.regions.specs.declared.Seat.{Seat}
 use Rattle.regions.specs.Sets.{Set, emptySet, saved, deleted}
-use Rattle.regions.specs.Numbers.{DONE, unless}
+use Rattle.regions.specs.Numbers.{DONE, IMAGE, DESK, unless}
 use Rattle.regions.specs.Calls.{written, countWritten, moreRemain, regionWidth, regionWords, openSetNo, saveNo, deleteNo, pointNo, ancestors, parent, boundsNo, descendants, children, Pair, joined, joinNo, pairWidth, pairWords}
 use Rattle.regions.specs.Desk.{past, markBehind, closed, openAt, opened, seatAt, openSeatNo, closeSeatNo, turned, handedWords, seatWord, poured, served, counts, roundNo, partNo, part}
 
@@ -293,3 +293,12 @@ pub record Passed (s t : State) (x : Shown) (i : ℕ) : Type 0 where
   pub told : getD (x .hands) i [] ≡ []
   pub rest : (j : ℕ) → j < 128 → getD (t .buffer) (seatWord i + j) 0 ≡ getD (s .buffer) (seatWord i + j) 0
   pub seat-then : seatAt (t .desk) i ≡ closed
+
+-- THE SHARES that each set was opened with
+abbrev pub sharesGiven : List ℕ → List ℕ → Which → List ℕ
+sharesGiven so si outer = so
+sharesGiven so si inner = si
+
+-- a number that tells of nothing spoiled: neither IMAGE nor DESK
+abbrev pub Fair : ℕ → Type 0
+Fair n = (n ≡ IMAGE → ⊥) × (n ≡ DESK → ⊥)

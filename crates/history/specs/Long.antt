@@ -14,13 +14,6 @@ use Rattle.history.specs.Calls.{Which, State, setOf, Call, answer, next,
 use Rattle.history.specs.Calls.Call.{save, delete, look, round, openSeat, closeSeat, askPart, askPartNo}
 use Rattle.history.specs.Held.{isWhich, isRound}
 
--- THE JOIN'S ORDER: q comes later than p; each pair later than all before it
-abbrev pub Then : Pair → Pair → Type 0
-Then p q = later (p .a .start) (p .d .start) q ≡ true
-
-abbrev pub Ascending : List Pair → Type 0
-Ascending ps = Pairs Then ps
-
 -- the same pair, by its two starts; that pair or one later
 unfoldable pub isPair : Pair → Pair → Bool
 isPair q p = eqb (q .a .start) (p .a .start) && eqb (q .d .start) (p .d .start)

@@ -7,7 +7,7 @@ use mathlib.Core.List.{List, [], _∷_}
 use lib.ListN.{length}
 use native.Mathlib.Omega.{arith}
 use Rattle.words.specs.Lists.{firstNo}
-use Rattle.words.proofs.Tests.{lt-yes, lt-no}
+use Rattle.words.proofs.Tests.{eq-no, lt-yes, lt-no}
 use Rattle.regions.specs.Numbers.{imageFirst}
 use Rattle.regions.specs.Positions.{wellBound}
 use Rattle.regions.specs.Calls.{regionWidth, regionWords, written, countWritten, moreRemain, foreign, pointNo, boundsNo, ancestors, parent, pairWidth, pairWords, joinNo, joined}
@@ -19,7 +19,7 @@ use Rattle.search.specs.Tallies.{foundList}
 use Rattle.search.specs.declared.Found.{Found}
 use Rattle.search.specs.declared.Found.the-variants.{Nothing as NotFound, At as FoundAt}
 use Rattle.index.specs.Joins.{JoinsSets}
-use Rattle.index.specs.Searches.{stepCount, FindsAncestors, parentNumber, parentFound, FindsParent, Lists}
+use Rattle.index.specs.Searches.{stepCount, FindsAncestors, parentNumber, parentFound, isRefusal, FindsParent, Lists}
 use Rattle.index.specs.declared.Parent.{Parent}
 use Rattle.index.specs.declared.Parent.the-variants.{Refused, Nothing, At}
 
@@ -58,16 +58,16 @@ unfolding foundList
 found-at f r xs e g = ap foundList (sym e) ∙ g
 
 pub parent-refused : (w : List ℕ) (a p l n : ℕ) → (n ≡ 0 → ⊥) → n ≡ imageFirst (valid w) (pointNo a p) → FindsParent w a p l (Refused n)
-unfolding parentNumber parentFound
-parent-refused w a p l n h e = record { number-is = e; refused = λ z. refl; done = λ z. absurd (h z) }
+unfolding parentNumber parentFound isRefusal
+parent-refused w a p l n h e = record { number-is = e; refused = λ z. refl; done = λ z. absurd (h z); case-is = rw (eq-no n 0 h) }
 
 pub parent-none : (w : List ℕ) (a p l : ℕ) → valid w ≡ true → foreign a p ≡ false → [] ≡ parent p l (setOf w) → FindsParent w a p l Nothing
-unfolding parentNumber parentFound
-parent-none w a p l v f e = record { number-is = own-number (valid w) 0 (pointNo a p) v (point-own a p f); refused = λ z. absurd (z refl); done = λ z. e }
+unfolding parentNumber parentFound isRefusal
+parent-none w a p l v f e = record { number-is = own-number (valid w) 0 (pointNo a p) v (point-own a p f); refused = λ z. absurd (z refl); done = λ z. e; case-is = refl }
 
 pub parent-at : (w : List ℕ) (a p l : ℕ) (r : Region) → valid w ≡ true → foreign a p ≡ false → r ∷ [] ≡ parent p l (setOf w) → FindsParent w a p l (At r)
-unfolding parentNumber parentFound
-parent-at w a p l r v f e = record { number-is = own-number (valid w) 0 (pointNo a p) v (point-own a p f); refused = λ z. absurd (z refl); done = λ z. e }
+unfolding parentNumber parentFound isRefusal
+parent-at w a p l r v f e = record { number-is = own-number (valid w) 0 (pointNo a p) v (point-own a p f); refused = λ z. absurd (z refl); done = λ z. e; case-is = refl }
 
 -- DESCENDANTS AND CHILDREN
 pub bounds-wrong : (a s e : ℕ) → wellBound s e ≡ false → 2 ≡ boundsNo a s e

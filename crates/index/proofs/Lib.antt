@@ -3,3 +3,4 @@ pub mod Empty
 pub mod Once
 pub mod Answers
 pub mod Changed
+pub mod Steps

@@ -1,4 +1,4 @@
--- The join: its promise. Both sets may be one image.
+-- Document 01, "Calls": the join, its promise. Both sets may be one image.
 -- Assumes nothing.
 use Prim.Native.Nat.{ℕ}
 use mathlib.Core.Path.{_≡_}

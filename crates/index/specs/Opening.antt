@@ -1,4 +1,4 @@
--- Opening a set: its promise, and the image that it leaves.
+-- Document 01, "Calls": opening a set, its promise, and the image that it leaves.
 -- Assumes nothing.
 use Prim.Native.Nat.{ℕ}
 use mathlib.Core.Path.{_≡_}

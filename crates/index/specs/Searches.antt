@@ -1,9 +1,10 @@
--- The four searches: their promises. None changes an image; each changes only the answer's words, and of those only the ones it writes.
+-- Document 01, "Calls": the four searches, their promises. None changes an image; each changes only the answer's words, and of those only the ones it writes.
 -- Assumes nothing.
 use Prim.Native.Nat.{ℕ}
 use mathlib.Core.Path.{_≡_}
-use mathlib.Core.Bool.{Bool, false}
+use mathlib.Core.Bool.{Bool, true, false, not}
 use mathlib.Core.List.{List, [], _∷_}
+use lib.Dec.{eqb}
 use lib.ListN.{length}
 use Rattle.regions.specs.Numbers.{imageFirst}
 use Rattle.regions.specs.Calls.{regionWidth, regionWords, written, countWritten, moreRemain, pointNo, boundsNo, ancestors, parent, descendants, children}
@@ -35,10 +36,17 @@ parentFound (Refused n) = []
 parentFound Nothing = []
 parentFound (At r) = r ∷ []
 
+unfoldable pub isRefusal : Parent → Bool
+isRefusal (Refused n) = true
+isRefusal Nothing = false
+isRefusal (At r) = false
+
+-- the case of a refusal is told exactly where the number is not 0
 pub record FindsParent (w : List ℕ) (account p level : ℕ) (answer : Parent) : Type 0 where
   pub number-is : parentNumber answer ≡ imageFirst (valid w) (pointNo account p)
   pub refused : (parentNumber answer ≡ 0 → ⊥) → parentFound answer ≡ []
   pub done : parentNumber answer ≡ 0 → parentFound answer ≡ parent p level (setOf w)
+  pub case-is : isRefusal answer ≡ not (eqb (parentNumber answer) 0)
 
 -- descendants and children: what they list is rs
 pub record Lists (w : List ℕ) (account start end : ℕ) (rs : List Region) (out : List ℕ) (number count : ℕ) (more : Bool) (out′ : List ℕ) : Type 0 where

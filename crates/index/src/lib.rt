@@ -1,14 +1,12 @@
-// The public calls on sets and the desk: each takes any input, tests in its order, and answers its number.
+// The public calls on sets: each takes any input, tests in its order, and answers its number.
 ghost use mathlib.Core.Path.{_≡_};
-ghost use Prim.Native.Nat.{_≤_, _<_};
-ghost use lib.ListN.{length, set, replicate, getD};
+ghost use Prim.Native.Nat.{_≤_};
+ghost use lib.ListN.{length, set, replicate};
 ghost use lib.Seq.{sets};
-ghost use lib.Dec.{T, leb};
+ghost use lib.Dec.{leb};
 ghost use Rattle.words.specs.Lists.{sum};
-ghost use Rattle.regions.specs.Sets.{heldBy};
 ghost use Rattle.regions.specs.Numbers.{imageFirst};
 ghost use Rattle.regions.specs.Calls.{boundsNo};
-ghost use Rattle.image.specs.Read.{setOf};
 ghost use Rattle.image.specs.Valid.{valid};
 ghost use Rattle.index.specs.Opening.{openedImage, OpensSet};
 ghost use Rattle.index.specs.Changes.{Saves, Deletes};
@@ -111,20 +109,6 @@ fn is_valid(img: &[u32]) -> bool
     report.ok
 }
 
-// A save into an image that is known to be valid and whose held regions have been counted, account by account.
-pub fn save_tested(img: &mut [u32], account: u32, r: Region, held: [u32; 16]) -> u32
-    requires { ⌜ T (valid (now img)) ⌝ }
-    requires { ⌜ (account < 16 → getD held account 0 ≡ heldBy account (setOf (now img))) ⌝ }
-    ensures { λ n. ⌜ Saves (now (img .entry)) account r n (now (img .exit)) ⌝ }
-{
-    let number = refuse::save_number(img, account, r, held);
-    if number != 0 {
-        return number;
-    }
-    insert::insert(img, r);
-    0
-}
-
 // Saves a region in its account: refused by the first test that it fails, and then no word changes.
 pub fn save(img: &mut [u32], account: u32, r: Region) -> u32
     ensures { λ n. ⌜ Saves (now (img .entry)) account r n (now (img .exit)) ⌝ }
@@ -134,20 +118,7 @@ pub fn save(img: &mut [u32], account: u32, r: Region) -> u32
     if !report.ok {
         return 1;
     }
-    save_tested(img, account, r, held)
-}
-
-// A delete from an image that is known to be valid.
-pub fn delete_tested(img: &mut [u32], account: u32, start: u32) -> u32
-    requires { ⌜ T (valid (now img)) ⌝ }
-    ensures { λ n. ⌜ Deletes (now (img .entry)) account start n (now (img .exit)) ⌝ }
-{
-    let number = refuse::delete_number(img, account, start);
-    if number != 0 {
-        return number;
-    }
-    remove::remove(img, start);
-    0
+    changes::save(img, account, r, held)
 }
 
 // Deletes the region of an account that starts at `start`.
@@ -157,7 +128,7 @@ pub fn delete(img: &mut [u32], account: u32, start: u32) -> u32
     if !is_valid(img) {
         return 1;
     }
-    delete_tested(img, account, start)
+    changes::delete(img, account, start)
 }
 
 // The ancestors of position p, outermost first: as many as fit, their total, and the steps that the search made.

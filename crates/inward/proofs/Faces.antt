@@ -11,7 +11,7 @@ use Rattle.words.proofs.Listed.{pairs-kept}
 use Rattle.words.proofs.Says.{lt-says, pairs-say}
 use Rattle.regions.specs.Sets.{startsBehind}
 use Rattle.regions.specs.declared.Region.{Region}
-use Rattle.regions.proofs.Rising.{Rising}
+use Rattle.regions.specs.Sound.{Rising}
 use Rattle.xrtree.specs.Tree as tree
 use Rattle.xrtree.specs.Rules.{startsFirst}
 use Rattle.image.specs.Read.{setOf}

@@ -17,7 +17,7 @@ use Rattle.regions.specs.Calls.{room, written, countWritten, regionWords, desce
 use Rattle.regions.specs.declared.Region.{Region}
 use Rattle.regions.proofs.Fits.{count-is, more-is}
 use Rattle.regions.proofs.Means.{inside-says, behind-says}
-use Rattle.regions.proofs.Rising.{Rising}
+use Rattle.regions.specs.Sound.{Rising}
 use Rattle.answers.specs.Items.{writtenFrom}
 use Rattle.answers.proofs.Items.{from-none, from-long, from-full, from-first, from-append}
 use Rattle.leaves.specs.declared.Entry.{Entry}

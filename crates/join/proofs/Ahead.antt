@@ -22,8 +22,8 @@ use Rattle.regions.specs.declared.Mark.{Mark}
 use Rattle.regions.specs.declared.Mark.the-variants.{Fresh, Last}
 use Rattle.regions.proofs.Extra.{true-so, so-true, false-so, so-false}
 use Rattle.regions.proofs.Means.{of-says, behind-says}
-use Rattle.regions.proofs.Local.{Wf, holds-account}
-use Rattle.regions.proofs.Rising.{Rising}
+use Rattle.regions.specs.Sound.{Wf, Rising}
+use Rattle.regions.proofs.Local.{holds-account}
 use Rattle.regions.proofs.Joined.{pairs-hold, later-says}
 use Rattle.xrtree.proofs.Extra.{skip}
 use Rattle.search.proofs.Tasks.{pairs-not}

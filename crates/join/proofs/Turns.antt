@@ -18,7 +18,7 @@ use Rattle.regions.specs.declared.Kind.{Kind}
 use Rattle.regions.specs.declared.Mark.{Mark}
 use Rattle.regions.specs.declared.Mark.the-variants.{Fresh}
 use Rattle.regions.proofs.Fits.{count-is}
-use Rattle.regions.proofs.Rising.{Rising, Sound}
+use Rattle.regions.specs.Sound.{Rising, Sound}
 use Rattle.regions.proofs.Joined.{past-fresh}
 use Rattle.image.specs.Read.{setOf}
 use Rattle.answers.specs.Items.{writtenFrom}

@@ -16,7 +16,7 @@ use Rattle.regions.specs.declared.Region.{Region}
 use Rattle.regions.specs.declared.Mark.{Mark}
 use Rattle.regions.specs.declared.Mark.the-variants.{Fresh, Last}
 use Rattle.regions.proofs.Extra.{false-so}
-use Rattle.regions.proofs.Rising.{Rising}
+use Rattle.regions.specs.Sound.{Rising}
 use Rattle.image.specs.Read.{depthOf, treeOf, setOf}
 use Rattle.image.specs.Valid.{valid}
 use Rattle.xrtree.specs.Search.{steps}

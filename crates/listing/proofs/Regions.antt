@@ -7,9 +7,7 @@ use mathlib.Core.List.{List}
 use lib.Dec.{T}
 use lib.ListN.{length, getD, set}
 use native.Mathlib.Omega.{arith}
-use Rattle.words.proofs.Tests.{T-of, of-T}
 use Rattle.regions.specs.Positions.{account}
-use Rattle.regions.specs.Numbers.{imageFirst}
 use Rattle.regions.specs.Sets.{saved}
 use Rattle.regions.specs.Calls.{saveNo}
 use Rattle.regions.specs.declared.Region.{Region}
@@ -17,7 +15,7 @@ use Rattle.regions.proofs.Done.{save-done}
 use Rattle.lines.specs.Text.{isLine}
 use Rattle.image.specs.Read.{setOf}
 use Rattle.image.specs.Valid.{valid}
-use Rattle.index.specs.Changes.{Saves}
+use Rattle.changes.specs.Changed.{SavesIn}
 use Rattle.listing.specs.Form.{regionAt, regionNo, savedLine}
 use Rattle.listing.specs.Steps.{lineFrom, Counted, RegionRead, Takes}
 use Rattle.listing.proofs.Counts.{count-room, counts-on}
@@ -34,18 +32,15 @@ module _ (text : List ℕ) (at : ℕ) (w : List ℕ) (r : Region) (next : ℕ) (
 
   module _ (ok : Bool) (f : ok ≡ true) (l : RegionRead text at ok r next) (a : ℕ) (o : a ≡ account (r .start)) where
     -- the save's number is the line's
-    own-number : (n : ℕ) → n ≡ imageFirst (valid w) (saveNo (setOf w) a r) → n ≡ saveNo (setOf w) a r
-    own-number n e = e ∙ ap (λ b. imageFirst b (saveNo (setOf w) a r)) (of-T (valid w) v)
-
-    line-number : (n : ℕ) → n ≡ imageFirst (valid w) (saveNo (setOf w) a r) → n ≡ regionNo (setOf w) (lineFrom text at)
+    line-number : (n : ℕ) → n ≡ saveNo (setOf w) a r → n ≡ regionNo (setOf w) (lineFrom text at)
     unfolding regionNo
     line-number n e =
-        own-number n e
+        e
         ∙ ap (λ b. saveNo (setOf w) b r) o
         ∙ ap (λ x. saveNo (setOf w) (account (x .start)) x) (l .region-is f)
         ∙ sym (ap (λ b. cond b (saveNo (setOf w) (account (regionAt (lineFrom text at) .start)) (regionAt (lineFrom text at))) 12) (sym (l .decides) ∙ f))
 
-    pub takes-refused : (n m k : ℕ) (held w′ : List ℕ) → Saves w a r n w′ → (n ≡ 0 → ⊥) → m ≡ n → Takes text at w m k held w′
+    pub takes-refused : (n m k : ℕ) (held w′ : List ℕ) → SavesIn w a r n w′ → (n ≡ 0 → ⊥) → m ≡ n → Takes text at w m k held w′
     takes-refused n m k held w′ s h e =
         record {
           number-is = e ∙ line-number n (s .number-is);
@@ -54,20 +49,20 @@ module _ (text : List ℕ) (at : ℕ) (w : List ℕ) (r : Region) (next : ℕ) (
         }
 
     -- what counting asks for
-    pub takes-room : (n : ℕ) (held w′ : List ℕ) → Saves w a r n w′ → n ≡ 0 → Counted held w → (a < 16) × (getD held a 0 < 500)
+    pub takes-room : (n : ℕ) (held w′ : List ℕ) → SavesIn w a r n w′ → n ≡ 0 → Counted held w → (a < 16) × (getD held a 0 < 500)
     takes-room n held w′ s z c =
-        let e = sym (own-number n (s .number-is)) ∙ z in
+        let e = sym (s .number-is) ∙ z in
         let b : a < 16 = omega (arith, save-done (setOf w) a r e .own .range) in
         (b, count-room w held a r v e b c)
 
-    pub takes-done : (n : ℕ) (held held′ w′ : List ℕ) → Saves w a r n w′ → n ≡ 0 → Counted held w → held′ ≡ set held a (suc (getD held a 0)) → Takes text at w 0 next held′ w′
+    pub takes-done : (n : ℕ) (held held′ w′ : List ℕ) → SavesIn w a r n w′ → n ≡ 0 → Counted held w → held′ ≡ set held a (suc (getD held a 0)) → Takes text at w 0 next held′ w′
     unfolding savedLine
     takes-done n held held′ w′ s z c e =
-        let q = sym (own-number n (s .number-is)) ∙ z in
+        let q = sym (s .number-is) ∙ z in
         let b : a < 16 = omega (arith, save-done (setOf w) a r q .own .range) in
         record {
           number-is = sym z ∙ line-number n (s .number-is);
           goes = λ k.
               (l .goes f, s .done z .1 ∙ ap (λ x. saved x (setOf w)) (l .region-is f), subst (λ x. Counted x w′) (sym e) (counts-on w w′ held a r q o b (s .done z .1) c));
-          stays-valid = T-of (s .done z .0);
+          stays-valid = s .done z .0;
         }

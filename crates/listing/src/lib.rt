@@ -233,7 +233,7 @@ fn take_region(text: &[u8], at: usize, img: &mut [u32], held: [u32; 16]) -> Take
     }
     let r = l.region;
     let account = regions::account_of(r.start);
-    let number = index::save_tested(img, account, r, held);
+    let number = changes::save(img, account, r, held);
     if number != 0 {
         return not_taken(number, held);
     }

@@ -3,7 +3,7 @@
 ghost use mathlib.Core.Path.{_≡_};
 ghost use mathlib.Core.List.{List, map};
 ghost use Prim.Native.Nat.{ℕ, suc, _+_, _<_, _≤_};
-ghost use lib.ListN.{length};
+ghost use lib.ListN.{length, getD};
 ghost use Rattle.pages.specs.Layout.{markOf, fillOf, nextOf};
 ghost use Rattle.image.specs.Read.{recordRegion, listPlaces};
 ghost use Rattle.image.specs.Decode.{keyWordsAt};
@@ -129,7 +129,7 @@ fn store_merged(img: &mut [u32], left: u32, joined: [u32; 57], q: u32, above: [u
 }
 
 // Children j and j + 1 of page q, leaves, become one; the key between them goes. What the next key does not take of its list is in no list any more.
-pub fn merge_leaf(img: &mut [u32], q: u32, j: usize)
+fn merge_leaf(img: &mut [u32], q: u32, j: usize)
     requires { ⌜ LeavesFit (now img) q j ⌝ }
     ensures { λ _. ⌜ ((s : PairAt (now (img .entry)) 0 q j) → Merged (now (img .entry)) (now (img .exit)) 0 q j s) ⌝ }
 {
@@ -148,7 +148,7 @@ pub fn merge_leaf(img: &mut [u32], q: u32, j: usize)
 }
 
 // Inner pages likewise: the key between them comes down, with what no key above or on its left takes of its list.
-pub fn merge_inner(img: &mut [u32], q: u32, j: usize)
+fn merge_inner(img: &mut [u32], q: u32, j: usize)
     requires { ⌜ InnersFit (now img) q j ⌝ }
     ensures { λ _. ⌜ ((h : ℕ) (s : PairAt (now (img .entry)) (suc h) q j) → Merged (now (img .entry)) (now (img .exit)) (suc h) q j s) ⌝ }
 {
@@ -165,4 +165,20 @@ pub fn merge_inner(img: &mut [u32], q: u32, j: usize)
     let lower = sunk.page;
     let joined = pagework::inner_joined(lower, key, b);
     store_merged(img, left, joined, q, above, right);
+}
+
+// The merge of leaves along a path: the page above them is page number `at` of the path.
+pub fn leaves(img: &mut [u32], path: [u32; 4], at: usize, j: usize)
+    requires { ⌜ (at < 4) × LeavesFit (now img) (getD path at 0) j ⌝ }
+    ensures { λ _. ⌜ ((s : PairAt (now (img .entry)) 0 (getD path at 0) j) → Merged (now (img .entry)) (now (img .exit)) 0 (getD path at 0) j s) ⌝ }
+{
+    merge_leaf(img, path[at], j);
+}
+
+// The merge of inner pages, likewise.
+pub fn inners(img: &mut [u32], path: [u32; 4], at: usize, j: usize)
+    requires { ⌜ (at < 4) × InnersFit (now img) (getD path at 0) j ⌝ }
+    ensures { λ _. ⌜ ((h : ℕ) (s : PairAt (now (img .entry)) (suc h) (getD path at 0) j) → Merged (now (img .entry)) (now (img .exit)) (suc h) (getD path at 0) j s) ⌝ }
+{
+    merge_inner(img, path[at], j);
 }

@@ -1,4 +1,4 @@
--- The word layout of an image, as docs/LAYOUT.md has it: 12,288 words.
+-- Document 01, "A valid image": the word layout, as docs/LAYOUT.md has it: 12,288 words.
 -- Assumes nothing.
 use Prim.Native.Nat.{ℕ, zero, suc, _+_, _*_}
 use mathlib.Core.Bool.{Bool, true, false, not}

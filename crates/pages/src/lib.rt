@@ -1,4 +1,4 @@
-// The words of an image: readers of header, pages and stab records, each equal to the layout's definition. Past the image's end every word is 0,
+// The words of an image: readers of pages and stab records, each equal to the layout's definition. Past the image's end every word is 0,
 // so that a place of any number can be followed.
 ghost use mathlib.Core.Path.{_≡_};
 ghost use Prim.Native.Nat.{_+_, _*_, _<_, _≤_};

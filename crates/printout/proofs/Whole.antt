@@ -14,7 +14,8 @@ use Rattle.regions.specs.Desk.{past, markBehind}
 use Rattle.regions.specs.declared.Kind.the-variants.{Ancestor}
 use Rattle.regions.specs.declared.Mark.{Mark}
 use Rattle.regions.specs.declared.Mark.the-variants.{Fresh}
-use Rattle.regions.proofs.Joined.{Ascending, joined-ascends, past-fresh, past-next}
+use Rattle.regions.specs.Sound.{Ascending}
+use Rattle.regions.proofs.Joined.{joined-ascends, past-fresh, past-next}
 use Rattle.image.specs.Read.{setOf}
 use Rattle.image.specs.Valid.{valid}
 use Rattle.inward.proofs.Faces.{set-rises}

@@ -18,7 +18,7 @@ fn is_held(img: &[u32], start: u32) -> bool
     touch::is_found(found)
 }
 
-// Whether an account holds as many regions as its share. The audit has counted them.
+// Whether an account holds as many regions as its share. They have been counted.
 fn is_full(img: &[u32], account: u32, held: [u32; 16]) -> bool
     requires { ⌜ T (valid (now img)) ⌝ }
     requires { ⌜ (account < 16) × (getD held account 0 ≡ heldBy account (setOf (now img))) ⌝ }

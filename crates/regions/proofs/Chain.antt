@@ -14,7 +14,7 @@ use Rattle.regions.specs.Sets.{Set}
 use Rattle.regions.specs.Calls.{ancestors, innermost, parent}
 use Rattle.regions.proofs.Extra.{true-so, so-true, last-split, pairs-two}
 use Rattle.regions.proofs.Means.{holds-says, contains-says, nested-in-turn}
-use Rattle.regions.proofs.Rising.{Rising, Nesting}
+use Rattle.regions.specs.Sound.{Rising, Nesting}
 
 abbrev pub Inward : List Region → Type 0
 Inward rs = Pairs (λ x y. contains x y ≡ true) rs

@@ -22,7 +22,7 @@ use Rattle.regions.specs.Calls.{Pair, pairsWith, pairOf, pairsOf, joined
 use Rattle.regions.specs.Desk.{later, isPast, past, markBehind, markFits}
 use Rattle.regions.proofs.Extra.{or-says, true-so, so-true, all-end, last-append}
 use Rattle.regions.proofs.Means.{of-says}
-use Rattle.regions.proofs.Rising.{Rising}
+use Rattle.regions.specs.Sound.{Rising, Then, Ascending}
 
 -- WHOM IT PAIRS
 pub record Joins (a : ℕ) (k : Kind) (q : Pair) : Type 0 where
@@ -48,13 +48,7 @@ joined-joins X Y a k =
     (all-kept (λ x. of a x ≡ true) (pairsWith k d) xs (all-let (of a) (X .regions))) (all-let (pairsWith k d) xs)))
     ys (all-let (of a) (Y .regions)))
 
--- ITS ORDER. `Then p q`: q comes later than p
-abbrev pub Then : Pair → Pair → Type 0
-Then p q = later (p .a .start) (p .d .start) q ≡ true
-
-abbrev pub Ascending : List Pair → Type 0
-Ascending ps = Pairs Then ps
-
+-- ITS ORDER
 -- on the two starts: the d's decide, and where they are equal the a's
 abbrev pub Lex : ℕ → ℕ → ℕ → ℕ → Type 0
 Lex a d b e = (d < e) ⊎ ((d ≡ e) × (a < b))

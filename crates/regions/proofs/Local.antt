@@ -16,6 +16,7 @@ use Rattle.regions.specs.declared.Kind.{Kind}
 use Rattle.regions.specs.Positions.{document, account, wellBound, wellFormed, crosses, holds, inside, isAbove, isBelow}
 use Rattle.regions.specs.Sets.{Set, of, only, heldBy, shareOf, isAt, heldAt, crossed, startsBefore, startsBehind, saved, isNotAt, deleted}
 use Rattle.regions.specs.Numbers.{REGION, ACCOUNT, HELD, CROSS, SHARE, ABSENT}
+use Rattle.regions.specs.Sound.{Wf}
 use Rattle.regions.specs.Calls.{foreign, saveNo, deleteNo, ancestors, innermost, parent, descendants, children, pairsOf, joined}
 use Rattle.regions.proofs.Extra.{true-so, so-true, so-false}
 use Rattle.regions.proofs.Means.{Formed, formed-says, bound-says, foreign-says, crosses-says, holds-says, inside-says, of-says, at-says, before-says, behind-says}
@@ -23,9 +24,6 @@ use Rattle.regions.proofs.Means.{Formed, formed-says, bound-says, forei
 -- POSITIONS AND REGIONS OF ONE ACCOUNT
 pub one-account : (p q : ℕ) → document p ≡ document q → account p ≡ account q
 one-account p q e = omega arith
-
-abbrev pub Wf : Region → Type 0
-Wf r = wellFormed r ≡ true
 
 pub wf : (r : Region) → Wf r → Formed r
 wf r h = true-so (formed-says r) h

@@ -17,14 +17,9 @@ use Rattle.regions.specs.Sets.{Set, emptySet, of, only, heldBy, shareOf,
 use Rattle.regions.specs.Calls.{saveNo, deleteNo}
 use Rattle.regions.proofs.Extra.{true-so, so-true, false-so, so-false, some-split, length-parts}
 use Rattle.regions.proofs.Means.{at-says, before-says, behind-says, of-says, nested-comm}
-use Rattle.regions.proofs.Local.{Wf, held-local, saved-of, saved-other, deleted-other}
+use Rattle.regions.specs.Sound.{Wf, Rising, Nesting, Sound}
+use Rattle.regions.proofs.Local.{held-local, saved-of, saved-other, deleted-other}
 use Rattle.regions.proofs.Done.{MaySave, MayDelete, save-done, delete-done}
-
-abbrev pub Rising : List Region → Type 0
-Rising rs = Pairs (λ x y. x .start < y .start) rs
-
-abbrev pub Nesting : List Region → Type 0
-Nesting rs = Pairs (λ x y. nested x y ≡ true) rs
 
 pub nesting-says : (rs : List Region) → Says (allPairs nested rs) (Nesting rs)
 nesting-says rs = pairs-say (λ x y. record { yes-so = of-T (nested x y); so-yes = λ e. T-of e }) rs
@@ -183,14 +178,7 @@ others-saved S r b n = ap (λ (Z : Set). length (Z .regions)) (saved-other S b r
 pub others-deleted : (S : Set) (s b : ℕ) → (b ≡ account s → ⊥) → heldBy b (deleted s S) ≡ heldBy b S
 others-deleted S s b n = ap (λ (Z : Set). length (Z .regions)) (deleted-other S b s n)
 
--- WHAT EVERY SET HAS ("A valid image", rule 6, and the order in which it is read)
-pub record Sound (S : Set) : Type 0 where
-  pub formed : All Wf (S .regions)
-  pub rising : Rising (S .regions)
-  pub nesting : Nesting (S .regions)
-  pub within : (a : ℕ) → heldBy a S ≤ shareOf a S
-  pub shared : sum (S .shares) ≤ 500
-
+-- WHAT EVERY SET HAS
 pub empty-sound : (shares : List ℕ) → sum shares ≤ 500 → Sound (emptySet shares)
 unfolding filter
 empty-sound shares l = record { formed = tt; rising = tt; nesting = tt; within = λ a. omega arith; shared = l }

@@ -36,7 +36,7 @@ ask (descendantsOf s e) = told (boundsNo 0 s e) (descendants s e 0 benchSet)
 ask (parentAt p l) = told (pointNo 0 p) (parent p l benchSet)
 ask (save s e) = saveNo benchSet 0 (region s e 5 0) ∷ []
 
--- the table: each row's question, and its answer
+-- the table, P1 to P12 in turn: each row's question, and its answer
 abbrev pub rows : List (Question × List ℕ)
 rows =
     (ancestorsAt 35, DONE ∷ 10 ∷ 20 ∷ 30 ∷ []) ∷

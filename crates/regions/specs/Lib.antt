@@ -3,4 +3,5 @@ pub mod Sets
 pub mod Numbers
 pub mod Calls
 pub mod Desk
+pub mod Sound
 pub mod Bench

@@ -1,4 +1,4 @@
--- A set: sixteen shares, and the regions held, in ascending start. What it holds, what a save and a delete leave of it.
+-- Document 01, "Calls", of what they are made on: a set, which is sixteen shares and the regions held, in ascending start. What it holds, what a save and a delete leave of it.
 -- Assumes nothing.
 use Prim.Native.Nat.{ℕ}
 use mathlib.Core.Bool.{Bool, true, false, not, _&&_}

@@ -6,7 +6,7 @@ use mathlib.Core.Logic.{_≢_}
 use mathlib.Core.List.{List}
 use lib.ListN.{length, take, drop}
 use native.Mathlib.Omega.{arith}
-use Rattle.xrtree.proofs.Extra.{keyBetween}
+use Rattle.xrtree.specs.Rules.{keyBetween}
 use Rattle.pages.specs.Layout.{pageOf, markOf, fillOf, nextOf, childIn, pageUsed}
 use Rattle.pages.specs.declared.KeyWords.{KeyWords}
 use Rattle.image.specs.Read.{entryAt, entriesFrom}

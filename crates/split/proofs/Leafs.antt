@@ -20,7 +20,8 @@ use Rattle.xrtree.proofs.Splice.{loAfter, keyWith, marked}
 use Rattle.xrtree.proofs.Whole.{Part, fill, hiPost}
 use Rattle.xrtree.proofs.Split.{fresh, regions-marked}
 use Rattle.xrtree.proofs.Merge.{all-unmap}
-use Rattle.xrtree.proofs.Extra.{keyBetween, key-between, cut, fresh-first, fresh-append, marked-later}
+use Rattle.xrtree.specs.Rules.{keyBetween}
+use Rattle.xrtree.proofs.Extra.{key-between, cut, fresh-first, fresh-append, marked-later}
 use Rattle.pages.specs.Layout.{pageOf, markOf, fillOf, nextOf}
 use Rattle.pages.specs.declared.KeyWords.{KeyWords}
 use Rattle.image.specs.Read.{entryAt, entriesFrom}

@@ -1,13 +1,13 @@
-// Splits of a leaf and of an inner page, as a save does them: the child keeps its first entries or keys, the rest goes to a new page on its right,
+// Splits of a leaf and of an inner page, as a save does them, and a delete where a page takes over from its neighbour: the child keeps its first entries or keys, the rest goes to a new page on its right,
 // and the key between them comes into the page above with the list that is its own.
 ghost use mathlib.Core.Path.{_≡_};
 ghost use mathlib.Core.Logic.{_≢_};
 ghost use Prim.Native.Nat.{ℕ, suc, _+_, _-_, _≤_, _<_};
-ghost use lib.ListN.{length};
+ghost use lib.ListN.{length, getD};
 ghost use Rattle.pages.specs.Layout.{fillOf, regionIn, entryWord, childIn};
 ghost use Rattle.image.specs.Read.{entryAt, entriesFrom};
 ghost use Rattle.image.specs.Decode.{keyWordsAt};
-ghost use Rattle.xrtree.proofs.Extra.{keyBetween};
+ghost use Rattle.xrtree.specs.Rules.{keyBetween};
 ghost use Rattle.steps.specs.Steps.{Split};
 ghost use Rattle.split.specs.Stored.{Stored};
 ghost use Rattle.split.specs.Ready.{LeafReady, InnerReady};
@@ -185,7 +185,7 @@ fn store_split(
 }
 
 // Child i of the page at place q, a leaf, keeps its first c entries; the rest goes to a new leaf on its right.
-pub fn split_leaf(img: &mut [u32], q: u32, i: usize, c: usize)
+fn split_leaf(img: &mut [u32], q: u32, i: usize, c: usize)
     requires { ⌜ LeafReady (now img) q i c ⌝ }
     ensures { λ _. ⌜ ((s : LeafReady (now (img .entry)) q i c) → Split (now (img .entry)) (now (img .exit)) 0 q i c (s .child-at)) ⌝ }
 {
@@ -203,7 +203,7 @@ pub fn split_leaf(img: &mut [u32], q: u32, i: usize, c: usize)
 }
 
 // Child i of the page at place q, an inner page, keeps its first c keys and c + 1 children; key c goes up, the rest goes to a new page on its right.
-pub fn split_inner(img: &mut [u32], q: u32, i: usize, c: usize)
+fn split_inner(img: &mut [u32], q: u32, i: usize, c: usize)
     requires { ⌜ ((h : ℕ) × InnerReady (now img) h q i c) ⌝ }
     ensures { λ _. ⌜ ((h : ℕ) (s : InnerReady (now (img .entry)) h q i c) → Split (now (img .entry)) (now (img .exit)) (suc h) q i c (s .child-at)) ⌝ }
 {
@@ -218,4 +218,20 @@ pub fn split_inner(img: &mut [u32], q: u32, i: usize, c: usize)
     let left = pagework::inner_left(ws, c);
     let right = pagework::inner_right(ws, c);
     store_split(img, p, left, r, right, q, above);
+}
+
+// The split of a leaf along a path: the page above the leaf is page number `at` of the path.
+pub fn leaf(img: &mut [u32], path: [u32; 4], at: usize, i: usize, c: usize)
+    requires { ⌜ (at < 4) × LeafReady (now img) (getD path at 0) i c ⌝ }
+    ensures { λ _. ⌜ ((s : LeafReady (now (img .entry)) (getD path at 0) i c) → Split (now (img .entry)) (now (img .exit)) 0 (getD path at 0) i c (s .child-at)) ⌝ }
+{
+    split_leaf(img, path[at], i, c);
+}
+
+// The split of an inner page, likewise.
+pub fn inner(img: &mut [u32], path: [u32; 4], at: usize, i: usize, c: usize)
+    requires { ⌜ (at < 4) × ((h : ℕ) × InnerReady (now img) h (getD path at 0) i c) ⌝ }
+    ensures { λ _. ⌜ ((h : ℕ) (s : InnerReady (now (img .entry)) h (getD path at 0) i c) → Split (now (img .entry)) (now (img .exit)) (suc h) (getD path at 0) i c (s .child-at)) ⌝ }
+{
+    split_inner(img, path[at], i, c);
 }

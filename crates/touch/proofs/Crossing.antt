@@ -19,7 +19,7 @@ use Rattle.regions.specs.Sets.{Set, isAt, heldAt, crossed}
 use Rattle.regions.specs.Calls.{ancestors, innermost}
 use Rattle.regions.proofs.Extra.{true-so, so-true, false-so, so-false, all-end, last-split, pairs-two}
 use Rattle.regions.proofs.Means.{Formed, holds-says, contains-says, at-says, Crossing, crosses-says, nested-in-turn}
-use Rattle.regions.proofs.Rising.{Rising, Nesting}
+use Rattle.regions.specs.Sound.{Rising, Nesting}
 use Rattle.regions.proofs.Chain.{Inward, innermost-last}
 use Rattle.touch.specs.Reach.{reaches, reach, endsBy, startsPast}
 

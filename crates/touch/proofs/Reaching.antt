@@ -17,7 +17,7 @@ use Rattle.regions.specs.Sets.{Set, isAt, heldAt, crossed}
 use Rattle.regions.specs.Calls.{ancestors, innermost}
 use Rattle.regions.proofs.Extra.{true-so, so-true, false-so, so-false, last-append}
 use Rattle.regions.proofs.Means.{holds-says, at-says}
-use Rattle.regions.proofs.Rising.{Rising}
+use Rattle.regions.specs.Sound.{Rising}
 use Rattle.image.specs.Read.{setOf}
 use Rattle.image.specs.Valid.{valid}
 use Rattle.search.specs.declared.Found.{Found}

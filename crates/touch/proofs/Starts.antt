@@ -15,7 +15,8 @@ use Rattle.regions.specs.declared.Region.{Region}
 use Rattle.regions.specs.Sets.{isAt, startsBehind}
 use Rattle.regions.proofs.Extra.{true-so, so-true, so-false}
 use Rattle.regions.proofs.Means.{Formed, formed-says, at-says, behind-says}
-use Rattle.regions.proofs.Rising.{Rising, Nesting, nesting-says}
+use Rattle.regions.specs.Sound.{Rising, Nesting}
+use Rattle.regions.proofs.Rising.{nesting-says}
 use Rattle.xrtree.specs.Tree.{Entry, regionOf}
 use Rattle.xrtree.specs.Rules.{startsFirst}
 use Rattle.image.specs.Read.{setOf}

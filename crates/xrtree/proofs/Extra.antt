@@ -12,7 +12,7 @@ use Rattle.words.proofs.Listed.{all-mono, all-two, filter-yes, filter-no, filte
 use Rattle.regions.specs.Positions.{stabs, holds}
 use Rattle.regions.specs.declared.Region.{Region}
 use Rattle.xrtree.specs.Tree.{Entry, Key, regionOf}
-use Rattle.xrtree.specs.Rules.{sameRegion, sameRegions}
+use Rattle.xrtree.specs.Rules.{keyBetween, sameRegion, sameRegions}
 use Rattle.xrtree.proofs.Claims.{InKids}
 use Rattle.xrtree.proofs.Box.{of-stabs, of-holds, to-holds}
 use Rattle.xrtree.proofs.Splice.{marked}
@@ -62,10 +62,7 @@ marked-later k [] h = refl
 marked-later k (y ∷ ys) h =
     ap₂ _∷_ (marked-off k y (off-T (stabs k (y .region)) (λ t. let s = of-stabs k (y .region) t in omega (arith, h .0)))) (marked-later k ys (h .1))
 
--- THE KEY between two leaves: the right one's first start minus one, if that still exceeds the left one's last start, else the first start
-unfoldable pub keyBetween : ℕ → ℕ → ℕ
-keyBetween last first = cond (ltb last (first - 1)) (first - 1) first
-
+-- THE KEY between two leaves
 pub key-between : (last first : ℕ) → last < first → (last < keyBetween last first) × (keyBetween last first ≤ first)
 unfolding keyBetween
 key-between last first h =

@@ -1,6 +1,6 @@
 -- Document 01, "A valid image": the rules on the tree, in its order. (D4.n: point n of Definition 4 of the source.)
 -- Assumes nothing.
-use Prim.Native.Nat.{ℕ, zero, suc, _+_}
+use Prim.Native.Nat.{ℕ, zero, suc, _+_, _-_}
 use mathlib.Core.Bool.{Bool, true, false, _&&_, not, cond}
 use mathlib.Core.List.{List, [], _∷_, _++_, map}
 use lib.Dec.{leb, ltb, eqb}
@@ -48,6 +48,10 @@ separates (key k) (key l) = true
 
 unfoldable pub rule2 : (h : ℕ) → Tree h → Bool
 rule2 h t = allPairs separates (items h t)
+
+-- any such key is valid; a key that is made between two leaves is the right one's first start minus one, if that still exceeds the left one's last start, else the first start itself
+unfoldable pub keyBetween : ℕ → ℕ → ℕ
+keyBetween last first = cond (ltb last (first - 1)) (first - 1) first
 
 -- RULE 3 (D4.4, D4.6): a page's stab list holds the regions of the set that some key of the page stabs and no key of a page above; a leaf flag says whether any key stabs
 unfoldable pub noneStabs : List ℕ → Region → Bool

@@ -1,4 +1,4 @@
--- An XR-tree on plain values, as the image holds it: pages with their places, leaf entries with their flags, keys with their stored pairs and lists.
+-- Document 01, "A valid image", of what its rules speak of: an XR-tree on plain values, as the image holds it: pages with their places, leaf entries with their flags, keys with their stored pairs and lists.
 -- Assumes nothing.
 use Prim.Native.Nat.{ℕ, zero, suc, _+_}
 use mathlib.Core.Bool.{Bool, true, false, _&&_}
@@ -54,9 +54,6 @@ listed L (suc h) t = L .onPage (t .place) (length (t .kids)) ++ weave (listed L 
 
 abbrev pub regionOf : Entry → Region
 regionOf e = e .region
-
-abbrev pub keyOf : Key → ℕ
-keyOf k = k .key
 
 -- the regions: ascending starts in a valid tree
 abbrev pub listRegions : Listing Region

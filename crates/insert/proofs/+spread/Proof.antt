@@ -25,20 +25,11 @@ spread-at t = and 1 spread-kinds.ps (is 1 spread-kinds.ps μ-spread t) spread.Pr
 abbrev spread-below : ℕ → In 1 spread-kinds.ps
 spread-below t = and 1 spread-kinds.ps (falls 1 spread-kinds.ps _<_ μ-spread t) spread.Pre
 
-spread-mul-q : (t : ℕ) → spread-lts.Need-mul-q (rank-reads.Asked, rank-reads.Learnt, spread-below t, spread.Post, settle-reads.Asked, settle-reads.Learnt) (spread-at t) spread.Post
-spread-mul-q t c = let s = c .before .before .pre .1 .6 in omega (arith, s .deep, s .flat, c .if1 .taken)
+spread-mul-rank : (t : ℕ) → spread-lts.Need-mul-rank (rank-reads.Asked, rank-reads.Learnt, spread-below t, spread.Post, settle-reads.Asked, settle-reads.Learnt) (spread-at t) spread.Post
+spread-mul-rank t c = let s = c .before .before .before .pre .1 .6 in omega (arith, s .deep, s .flat, c .before .if1 .taken)
 
-spread-array-read-q : (t : ℕ) → spread-lts.Need-array-read-q (rank-reads.Asked, rank-reads.Learnt, spread-below t, spread.Post, settle-reads.Asked, settle-reads.Learnt) (spread-at t) spread.Post
-spread-array-read-q t c = let s = c .before .before .pre .1 .6 in omega (arith, s .deep, s .flat, c .if1 .taken)
-
-spread-add-p : (t : ℕ) → spread-lts.Need-add-p (rank-reads.Asked, rank-reads.Learnt, spread-below t, spread.Post, settle-reads.Asked, settle-reads.Learnt) (spread-at t) spread.Post
-spread-add-p t c = let s = c .before .before .pre .1 .6 in omega (arith, s .deep, s .flat, c .if1 .taken)
-
-spread-mul-p : (t : ℕ) → spread-lts.Need-mul-p (rank-reads.Asked, rank-reads.Learnt, spread-below t, spread.Post, settle-reads.Asked, settle-reads.Learnt) (spread-at t) spread.Post
-spread-mul-p t c = let s = c .before .before .pre .1 .6 in omega (arith, s .deep, s .flat, c .if1 .taken)
-
-spread-array-read-p : (t : ℕ) → spread-lts.Need-array-read-p (rank-reads.Asked, rank-reads.Learnt, spread-below t, spread.Post, settle-reads.Asked, settle-reads.Learnt) (spread-at t) spread.Post
-spread-array-read-p t c = let s = c .before .before .pre .1 .6 in omega (arith, s .deep, s .flat, c .if1 .taken)
+spread-array-read-rank : (t : ℕ) → spread-lts.Need-array-read-rank (rank-reads.Asked, rank-reads.Learnt, spread-below t, spread.Post, settle-reads.Asked, settle-reads.Learnt) (spread-at t) spread.Post
+spread-array-read-rank t c = let s = c .before .before .before .pre .1 .6 in omega (arith, s .deep, s .flat, c .before .if1 .taken)
 
 spread-rank-requires : (t : ℕ) → spread-lts.Need-rank-requires (rank-reads.Asked, rank-reads.Learnt, spread-below t, spread.Post, settle-reads.Asked, settle-reads.Learnt) (spread-at t) spread.Post
 spread-rank-requires t c κs = rank-asks _ _ _ _ _ _ _ refl (c .before .if1 .taken) _ _ _ _ _ (c .before .before .before .pre .1 .6)
@@ -56,7 +47,7 @@ spread-sub-settle-2 : (t : ℕ) → spread-lts.Need-sub-settle-2 (rank-reads.Ask
 spread-sub-settle-2 t c = omega (arith, c .before .before .before .before .before .before .before .if1 .taken)
 
 spread-settle-requires : (t : ℕ) → spread-lts.Need-settle-requires (rank-reads.Asked, rank-reads.Learnt, spread-below t, spread.Post, settle-reads.Asked, settle-reads.Learnt) (spread-at t) spread.Post
-spread-settle-requires t c κs = settle-asks _ _ _ _ _ _ _ refl _ (c .before .before .before .spread .ensures) _ _ _ (c .before .before .before .before .before .rank .ensures) refl (omega (arith, c .before .before .before .before .before .before .before .if1 .taken)) (c .before .before .before .before .before .before .before .if1 .taken) _ _ _ _ _ (c .before .before .before .before .before .before .before .before .before .pre .1 .6)
+spread-settle-requires t c κs = let s = c .before .before .before .before .before .before .before .before .before .pre .1 .6 in (omega (arith, s .deep, s .flat, c .before .before .before .before .before .before .before .if1 .taken), settle-asks _ _ _ _ _ _ _ refl _ (c .before .before .before .spread .ensures) _ _ _ (c .before .before .before .before .before .rank .ensures) refl (omega (arith, c .before .before .before .before .before .before .before .if1 .taken)) (c .before .before .before .before .before .before .before .if1 .taken) _ _ _ _ _ s)
 
 spread-same-length : (t : ℕ) → spread-lts.Need-same-length (rank-reads.Asked, rank-reads.Learnt, spread-below t, spread.Post, settle-reads.Asked, settle-reads.Learnt) (spread-at t) spread.Post
 spread-same-length t c = c .before .before .settle .kept .0 ∙ c .before .before .before .before .before .before .spread .kept .0
@@ -71,11 +62,8 @@ pub +spread-spec : {M : Type 1} → statement M
 +spread-spec =
     close μ-spread
     (λ t. spread-lts.spec (rank-reads.Asked, rank-reads.Learnt, spread-below t, spread.Post, settle-reads.Asked, settle-reads.Learnt) (spread-at t) spread.Post
-    (spread-mul-q t)
-    (spread-array-read-q t)
-    (spread-add-p t)
-    (spread-mul-p t)
-    (spread-array-read-p t)
+    (spread-mul-rank t)
+    (spread-array-read-rank t)
     (spread-rank-requires t)
     (spread-add-spread t)
     (spread-spread-requires t)

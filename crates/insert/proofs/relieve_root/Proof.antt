@@ -1,6 +1,7 @@
 -- `insert::relieve_root` leaves a root of eight or less as it is, and puts a root above one of nine.
 -- Assumes nothing.
 use borrow.Author.Needs.{needs}
+use native.Mathlib.Omega.{arith}
 use mathlib.Core.Path.{sym, _∙_}
 use Rattle.insert.proofs.Roots.{top-kept, grow-asks, settle-asks, top-done}
 use Rattle.insert.proofs.relieve_root.Statement.{statement}
@@ -27,7 +28,7 @@ root-requires-2 c κs = search needs
 settle-requires : tie.Need-settle-requires
 settle-requires c κs =
     let s = c .before .before .before .before .before .before .before .before .before .before .before .before .before .pre in
-    settle-asks _ _ s _ (c .before .before .before .before .before .before .before .before .before .before .root .ensures) (sym (c .before .before .before .before .before .before .before .before .fill .ensures) ∙ c .before .before .before .before .before .before .before .if1 .left) _ (c .before .before .before .before .before .grow-root .ensures (s .rs) (s .h) (s .t) (s .whole)) _ (c .before .root2 .ensures)
+    (omega arith, settle-asks _ _ s _ (c .before .before .before .before .before .before .before .before .before .before .root .ensures) (sym (c .before .before .before .before .before .before .before .before .fill .ensures) ∙ c .before .before .before .before .before .before .before .if1 .left) _ (c .before .before .before .before .before .grow-root .ensures (s .rs) (s .h) (s .t) (s .whole)) _ (c .before .root2 .ensures))
 
 same-length-2 : tie.Need-same-length-2
 same-length-2 c = search needs

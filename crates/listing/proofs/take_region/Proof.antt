@@ -8,7 +8,7 @@ use Rattle.words.proofs.Tests.{not-true, not-false}
 use Rattle.listing.proofs.Regions.{takes-form, takes-refused, takes-room, takes-done}
 use Rattle.listing.proofs.take_region.Statement.{statement}
 use Rattle.listing.proofs.take_region.Tie as tie
-use Rattle.index.proofs.save_tested.Reads as save-tested-reads
+use Rattle.changes.proofs.save.Reads as save-reads
 use Rattle.listing.proofs.counted.Reads as counted-reads
 use Rattle.listing.proofs.not_taken.Reads as not-taken-reads
 use Rattle.listing.proofs.read_region.Reads as read-region-reads
@@ -26,8 +26,8 @@ returns c = takes-form _ _ (now (c .before .before .before .before .before .befo
 account-of-requires : tie.Need-account-of-requires
 account-of-requires c κs = search needs
 
-save-tested-requires : tie.Need-save-tested-requires
-save-tested-requires c κs = (c .before .before .before .before .before .before .before .before .pre .1 .0, c .before .before .before .before .before .before .before .before .pre .1 .1 .1 _)
+save-requires : tie.Need-save-requires
+save-requires c κs = (c .before .before .before .before .before .before .before .before .pre .1 .0, c .before .before .before .before .before .before .before .before .pre .1 .1 .1 _)
 
 not-taken-requires-2 : tie.Need-not-taken-requires-2
 not-taken-requires-2 c κs = search needs
@@ -36,16 +36,16 @@ same-length : tie.Need-same-length
 same-length c = search needs
 
 returns-2 : tie.Need-returns-2
-returns-2 c = takes-refused _ _ (now (c .before .before .before .before .before .before .before .before .before .before .before .before .before .args .img)) _ _ (c .before .before .before .before .before .before .before .before .before .before .before .before .before .pre .1 .0) _ (not-false (c .before .before .before .before .before .before .before .before .before .before .read-region .result .ok) (c .before .before .before .before .before .before .before .before .if1 .left)) (c .before .before .before .before .before .before .before .before .before .before .read-region .ensures) _ (c .before .before .before .before .before .before .account-of .ensures) _ _ _ _ _ (c .before .before .before .before .save-tested .ensures) (c .before .if2 .taken) (c .not-taken2 .ensures .0)
+returns-2 c = takes-refused _ _ (now (c .before .before .before .before .before .before .before .before .before .before .before .before .before .args .img)) _ _ (c .before .before .before .before .before .before .before .before .before .before .before .before .before .pre .1 .0) _ (not-false (c .before .before .before .before .before .before .before .before .before .before .read-region .result .ok) (c .before .before .before .before .before .before .before .before .if1 .left)) (c .before .before .before .before .before .before .before .before .before .before .read-region .ensures) _ (c .before .before .before .before .before .before .account-of .ensures) _ _ _ _ _ (c .before .before .before .before .save .ensures) (c .before .if2 .taken) (c .not-taken2 .ensures .0)
 
 counted-requires : tie.Need-counted-requires
-counted-requires c κs = takes-room _ _ (now (c .before .before .before .before .before .before .before .before .before .before .before .before .args .img)) _ _ (c .before .before .before .before .before .before .before .before .before .before .before .before .pre .1 .0) _ (not-false (c .before .before .before .before .before .before .before .before .before .read-region .result .ok) (c .before .before .before .before .before .before .before .if1 .left)) (c .before .before .before .before .before .before .before .before .before .read-region .ensures) _ (c .before .before .before .before .before .account-of .ensures) _ (c .before .before .before .before .before .before .before .before .before .before .before .before .args .held) _ (c .before .before .before .save-tested .ensures) (c .if2 .left) (c .before .before .before .before .before .before .before .before .before .before .before .before .pre .1 .1)
+counted-requires c κs = takes-room _ _ (now (c .before .before .before .before .before .before .before .before .before .before .before .before .args .img)) _ _ (c .before .before .before .before .before .before .before .before .before .before .before .before .pre .1 .0) _ (not-false (c .before .before .before .before .before .before .before .before .before .read-region .result .ok) (c .before .before .before .before .before .before .before .if1 .left)) (c .before .before .before .before .before .before .before .before .before .read-region .ensures) _ (c .before .before .before .before .before .account-of .ensures) _ (c .before .before .before .before .before .before .before .before .before .before .before .before .args .held) _ (c .before .before .before .save .ensures) (c .if2 .left) (c .before .before .before .before .before .before .before .before .before .before .before .before .pre .1 .1)
 
 same-length-2 : tie.Need-same-length-2
 same-length-2 c = search needs
 
 returns-3 : tie.Need-returns-3
-returns-3 c = takes-done _ _ (now (c .before .before .before .before .before .before .before .before .before .before .before .before .before .args .img)) _ _ (c .before .before .before .before .before .before .before .before .before .before .before .before .before .pre .1 .0) _ (not-false (c .before .before .before .before .before .before .before .before .before .before .read-region .result .ok) (c .before .before .before .before .before .before .before .before .if1 .left)) (c .before .before .before .before .before .before .before .before .before .before .read-region .ensures) _ (c .before .before .before .before .before .before .account-of .ensures) _ (c .before .before .before .before .before .before .before .before .before .before .before .before .before .args .held) _ _ (c .before .before .before .before .save-tested .ensures) (c .before .if2 .left) (c .before .before .before .before .before .before .before .before .before .before .before .before .before .pre .1 .1) (c .counted .ensures)
+returns-3 c = takes-done _ _ (now (c .before .before .before .before .before .before .before .before .before .before .before .before .before .args .img)) _ _ (c .before .before .before .before .before .before .before .before .before .before .before .before .before .pre .1 .0) _ (not-false (c .before .before .before .before .before .before .before .before .before .before .read-region .result .ok) (c .before .before .before .before .before .before .before .before .if1 .left)) (c .before .before .before .before .before .before .before .before .before .before .read-region .ensures) _ (c .before .before .before .before .before .before .account-of .ensures) _ (c .before .before .before .before .before .before .before .before .before .before .before .before .before .args .held) _ _ (c .before .before .before .before .save .ensures) (c .before .if2 .left) (c .before .before .before .before .before .before .before .before .before .before .before .before .before .pre .1 .1) (c .counted .ensures)
 
 pub take-region-spec : {M : Type 1} → statement M
 take-region-spec =
@@ -55,7 +55,7 @@ take-region-spec =
     not-taken-requires
     returns
     account-of-requires
-    save-tested-requires
+    save-requires
     not-taken-requires-2
     same-length
     returns-2

@@ -15,14 +15,8 @@ add-mend-mid c = search needs
 mend-mid-requires : tie.Need-mend-mid-requires
 mend-mid-requires c κs = (omega (arith, c .before .before .pre .0), c .before .before .pre .1 .1, child-ask (c .before .before .pre .2) _ _ refl (c .before .before .pre .1 .0))
 
-mul-mend-page : tie.Need-mul-mend-page
-mul-mend-page c = search needs
-
-array-read-mend-page : tie.Need-array-read-mend-page
-array-read-mend-page c = search needs
-
 mend-page-requires : tie.Need-mend-page-requires
-mend-page-requires c κs = page-ask (c .before .before .before .before .before .before .pre .2) _ _ refl (c .before .before .before .before .before .before .pre .1 .0) _ (c .before .before .before .mend-mid .ensures)
+mend-page-requires c κs = (omega (arith, c .before .before .before .before .before .before .pre .0), page-ask (c .before .before .before .before .before .before .pre .2) _ _ refl (c .before .before .before .before .before .before .pre .1 .0) _ (c .before .before .before .mend-mid .ensures))
 
 same-length : tie.Need-same-length
 same-length c = search needs
@@ -36,8 +30,6 @@ mend-high-spec =
     (tie.spec
     add-mend-mid
     mend-mid-requires
-    mul-mend-page
-    array-read-mend-page
     mend-page-requires
     same-length
     returns)

@@ -9,29 +9,35 @@ use Rattle.remove.proofs.child_fill.Reads as child-fill-reads
 use Rattle.remove.proofs.merge_pages.Reads as merge-pages-reads
 use Rattle.remove.proofs.split_page.Reads as split-page-reads
 
+mul-child-fill : tie.Need-mul-child-fill
+mul-child-fill c = search needs
+
+array-read-child-fill : tie.Need-array-read-child-fill
+array-read-child-fill c = search needs
+
 add-child-fill : tie.Need-add-child-fill
-add-child-fill c = omega (arith, pair-small (c .before .before .pre .couple))
+add-child-fill c = omega (arith, pair-small (c .before .before .pre .1 .couple))
 
 child-fill-requires : tie.Need-child-fill-requires
-child-fill-requires c κs = omega (arith, pair-small (c .before .before .pre .couple))
+child-fill-requires c κs = omega (arith, pair-small (c .before .before .pre .1 .couple))
 
 add-if1 : tie.Need-add-if1
-add-if1 c = omega (arith, left-few (c .before .before .before .pre) _ (c .child-fill .ensures))
+add-if1 c = omega (arith, left-few (c .before .before .before .pre .1) _ (c .child-fill .ensures))
 
 merge-pages-requires : tie.Need-merge-pages-requires
-merge-pages-requires c κs = left-joins (c .before .before .before .before .before .pre) _ (c .before .before .child-fill .ensures) (c .before .if1 .taken)
+merge-pages-requires c κs = (c .before .before .before .before .before .pre .0, left-joins (c .before .before .before .before .before .pre .1) _ (c .before .before .child-fill .ensures) (c .before .if1 .taken))
 
 add-split-page : tie.Need-add-split-page
-add-split-page c = omega (arith, pair-small (c .before .before .before .before .before .pre .couple))
+add-split-page c = omega (arith, pair-small (c .before .before .before .before .before .pre .1 .couple))
 
 sub-split-page : tie.Need-sub-split-page
-sub-split-page c = inner-most (c .before .before .before .before .before .pre)
+sub-split-page c = inner-most (c .before .before .before .before .before .pre .1)
 
 split-page-requires : tie.Need-split-page-requires
-split-page-requires c κs = right-lends (c .before .before .before .before .before .pre) _ (c .before .before .child-fill .ensures) (c .before .if1 .left)
+split-page-requires c κs = (c .before .before .before .before .before .pre .0, right-lends (c .before .before .before .before .before .pre .1) _ (c .before .before .child-fill .ensures) (c .before .if1 .left))
 
 merge-pages-requires-2 : tie.Need-merge-pages-requires-2
-merge-pages-requires-2 c κs = left-takes (c .before .before .before .before .before .before .before .before .before .pre) _ (c .before .before .before .before .before .before .child-fill .ensures) _ (c .before .before .before .before .before .if1 .left) (c .before .before .before .split-page .ensures)
+merge-pages-requires-2 c κs = (c .before .before .before .before .before .before .before .before .before .pre .0, left-takes (c .before .before .before .before .before .before .before .before .before .pre .1) _ (c .before .before .before .before .before .before .child-fill .ensures) _ (c .before .before .before .before .before .if1 .left) (c .before .before .before .split-page .ensures))
 
 same-length : tie.Need-same-length
 same-length c = search needs
@@ -49,6 +55,8 @@ pub mend-left-spec : {M : Type 1} → statement M
 mend-left-spec =
     tie.close
     (tie.spec
+    mul-child-fill
+    array-read-child-fill
     add-child-fill
     child-fill-requires
     add-if1

@@ -6,14 +6,8 @@ use Rattle.remove.proofs.mend_low.Statement.{statement}
 use Rattle.remove.proofs.mend_low.Tie as tie
 use Rattle.remove.proofs.mend_page.Reads as mend-page-reads
 
-mul-mend-page : tie.Need-mul-mend-page
-mul-mend-page c = search needs
-
-array-read-mend-page : tie.Need-array-read-mend-page
-array-read-mend-page c = search needs
-
 mend-page-requires : tie.Need-mend-page-requires
-mend-page-requires c κs = low-ask (c .before .before .pre .1)
+mend-page-requires c κs = (c .before .before .pre .0, low-ask (c .before .before .pre .1))
 
 same-length : tie.Need-same-length
 same-length c = search needs
@@ -23,4 +17,4 @@ returns c = λ s. low-done s (c .before .before .mend-page .ensures)
 
 pub mend-low-spec : {M : Type 1} → statement M
 mend-low-spec =
-    tie.close (tie.spec mul-mend-page array-read-mend-page mend-page-requires same-length returns)
+    tie.close (tie.spec mend-page-requires same-length returns)

@@ -15,14 +15,8 @@ add-mend-low c = search needs
 mend-low-requires : tie.Need-mend-low-requires
 mend-low-requires c κs = (omega (arith, c .before .before .pre .0), child-ask (c .before .before .pre .2) _ _ refl (c .before .before .pre .1 .0))
 
-mul-mend-page : tie.Need-mul-mend-page
-mul-mend-page c = search needs
-
-array-read-mend-page : tie.Need-array-read-mend-page
-array-read-mend-page c = search needs
-
 mend-page-requires : tie.Need-mend-page-requires
-mend-page-requires c κs = page-ask (c .before .before .before .before .before .before .pre .2) _ _ refl (c .before .before .before .before .before .before .pre .1 .0) _ (c .before .before .before .mend-low .ensures)
+mend-page-requires c κs = (omega (arith, c .before .before .before .before .before .before .pre .0), page-ask (c .before .before .before .before .before .before .pre .2) _ _ refl (c .before .before .before .before .before .before .pre .1 .0) _ (c .before .before .before .mend-low .ensures))
 
 same-length : tie.Need-same-length
 same-length c = search needs
@@ -36,8 +30,6 @@ mend-mid-spec =
     (tie.spec
     add-mend-low
     mend-low-requires
-    mul-mend-page
-    array-read-mend-page
     mend-page-requires
     same-length
     returns)

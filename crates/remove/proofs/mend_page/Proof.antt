@@ -12,11 +12,17 @@ use Rattle.remove.proofs.mend_left.Reads as mend-left-reads
 use Rattle.remove.proofs.mend_right.Reads as mend-right-reads
 use Rattle.words.proofs.wide.Reads as wide-reads
 
+mul-q : tie.Need-mul-q
+mul-q c = search needs
+
+array-read-q : tie.Need-array-read-q
+array-read-q c = search needs
+
 rank-requires : tie.Need-rank-requires
-rank-requires c κs = thin-few (c .before .before .pre)
+rank-requires c κs = thin-few (c .before .before .pre .1)
 
 child-fill-requires : tie.Need-child-fill-requires
-child-fill-requires c κs = thin-index (c .before .before .before .before .pre) _ (c .before .rank .ensures)
+child-fill-requires c κs = thin-index (c .before .before .before .before .pre .1) _ (c .before .rank .ensures)
 
 fill-requires : tie.Need-fill-requires
 fill-requires c κs = search needs
@@ -31,13 +37,13 @@ returns : tie.Need-returns
 returns c = λ s. thin-kept s _ (c .before .before .before .before .before .before .rank .ensures) _ (c .before .before .before .before .child-fill .ensures) (c .if1 .taken)
 
 mend-left-requires : tie.Need-mend-left-requires
-mend-left-requires c κs = as-left (c .before .before .before .before .before .before .before .before .before .before .before .pre) _ (c .before .before .before .before .before .before .before .before .rank .ensures) _ (c .before .before .before .before .before .before .child-fill .ensures) (c .before .before .if1 .left) _ (c .before .before .before .wide .ensures ∙ c .before .before .before .before .fill .ensures) (c .before .if2 .taken) .0
+mend-left-requires c κs = (c .before .before .before .before .before .before .before .before .before .before .before .pre .0, as-left (c .before .before .before .before .before .before .before .before .before .before .before .pre .1) _ (c .before .before .before .before .before .before .before .before .rank .ensures) _ (c .before .before .before .before .before .before .child-fill .ensures) (c .before .before .if1 .left) _ (c .before .before .before .wide .ensures ∙ c .before .before .before .before .fill .ensures) (c .before .if2 .taken) .0)
 
 sub-mend-right : tie.Need-sub-mend-right
-sub-mend-right c = one-before (c .before .before .before .before .before .before .before .before .before .before .before .pre) _ (c .before .before .before .before .before .before .before .before .rank .ensures) _ (c .before .before .before .before .before .before .child-fill .ensures) (c .before .before .if1 .left) _ (c .before .before .before .wide .ensures ∙ c .before .before .before .before .fill .ensures) (c .before .if2 .left)
+sub-mend-right c = one-before (c .before .before .before .before .before .before .before .before .before .before .before .pre .1) _ (c .before .before .before .before .before .before .before .before .rank .ensures) _ (c .before .before .before .before .before .before .child-fill .ensures) (c .before .before .if1 .left) _ (c .before .before .before .wide .ensures ∙ c .before .before .before .before .fill .ensures) (c .before .if2 .left)
 
 mend-right-requires : tie.Need-mend-right-requires
-mend-right-requires c κs = as-right (c .before .before .before .before .before .before .before .before .before .before .before .pre) _ (c .before .before .before .before .before .before .before .before .rank .ensures) _ (c .before .before .before .before .before .before .child-fill .ensures) (c .before .before .if1 .left) _ (c .before .before .before .wide .ensures ∙ c .before .before .before .before .fill .ensures) (c .before .if2 .left) .0
+mend-right-requires c κs = (c .before .before .before .before .before .before .before .before .before .before .before .pre .0, as-right (c .before .before .before .before .before .before .before .before .before .before .before .pre .1) _ (c .before .before .before .before .before .before .before .before .rank .ensures) _ (c .before .before .before .before .before .before .child-fill .ensures) (c .before .before .if1 .left) _ (c .before .before .before .wide .ensures ∙ c .before .before .before .before .fill .ensures) (c .before .if2 .left) .0)
 
 same-length-2 : tie.Need-same-length-2
 same-length-2 c = search needs
@@ -55,6 +61,8 @@ pub mend-page-spec : {M : Type 1} → statement M
 mend-page-spec =
     tie.close
     (tie.spec
+    mul-q
+    array-read-q
     rank-requires
     child-fill-requires
     fill-requires

@@ -9,26 +9,32 @@ use Rattle.remove.proofs.child_fill.Reads as child-fill-reads
 use Rattle.remove.proofs.merge_pages.Reads as merge-pages-reads
 use Rattle.remove.proofs.split_page.Reads as split-page-reads
 
+mul-child-fill : tie.Need-mul-child-fill
+mul-child-fill c = search needs
+
+array-read-child-fill : tie.Need-array-read-child-fill
+array-read-child-fill c = search needs
+
 child-fill-requires : tie.Need-child-fill-requires
-child-fill-requires c κs = omega (arith, pair-small (c .before .before .pre .couple))
+child-fill-requires c κs = omega (arith, pair-small (c .before .before .pre .1 .couple))
 
 add-if1 : tie.Need-add-if1
-add-if1 c = omega (arith, right-few (c .before .before .before .pre) _ (c .child-fill .ensures))
+add-if1 c = omega (arith, right-few (c .before .before .before .pre .1) _ (c .child-fill .ensures))
 
 merge-pages-requires : tie.Need-merge-pages-requires
-merge-pages-requires c κs = right-joins (c .before .before .before .before .before .pre) _ (c .before .before .child-fill .ensures) (c .before .if1 .taken)
+merge-pages-requires c κs = (c .before .before .before .before .before .pre .0, right-joins (c .before .before .before .before .before .pre .1) _ (c .before .before .child-fill .ensures) (c .before .if1 .taken))
 
 sub-split-page : tie.Need-sub-split-page
-sub-split-page c = omega (arith, left-four (c .before .before .before .before .before .pre) _ (c .before .before .child-fill .ensures))
+sub-split-page c = omega (arith, left-four (c .before .before .before .before .before .pre .1) _ (c .before .before .child-fill .ensures))
 
 split-page-requires : tie.Need-split-page-requires
-split-page-requires c κs = left-lends (c .before .before .before .before .before .pre) _ (c .before .before .child-fill .ensures) (c .before .if1 .left)
+split-page-requires c κs = (c .before .before .before .before .before .pre .0, left-lends (c .before .before .before .before .before .pre .1) _ (c .before .before .child-fill .ensures) (c .before .if1 .left))
 
 add-merge-pages : tie.Need-add-merge-pages
-add-merge-pages c = omega (arith, pair-small (c .before .before .before .before .before .before .before .before .before .pre .couple))
+add-merge-pages c = omega (arith, pair-small (c .before .before .before .before .before .before .before .before .before .pre .1 .couple))
 
 merge-pages-requires-2 : tie.Need-merge-pages-requires-2
-merge-pages-requires-2 c κs = right-takes (c .before .before .before .before .before .before .before .before .before .pre) _ (c .before .before .before .before .before .before .child-fill .ensures) _ (c .before .before .before .before .before .if1 .left) (c .before .before .before .split-page .ensures)
+merge-pages-requires-2 c κs = (c .before .before .before .before .before .before .before .before .before .pre .0, right-takes (c .before .before .before .before .before .before .before .before .before .pre .1) _ (c .before .before .before .before .before .before .child-fill .ensures) _ (c .before .before .before .before .before .if1 .left) (c .before .before .before .split-page .ensures))
 
 same-length : tie.Need-same-length
 same-length c = search needs
@@ -46,6 +52,8 @@ pub mend-right-spec : {M : Type 1} → statement M
 mend-right-spec =
     tie.close
     (tie.spec
+    mul-child-fill
+    array-read-child-fill
     child-fill-requires
     add-if1
     merge-pages-requires

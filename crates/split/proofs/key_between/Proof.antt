@@ -4,7 +4,7 @@ use borrow.Author.Needs.{needs}
 use Prim.Native.Nat.{_-_}
 use Rattle.words.proofs.Tests.{lt-yes, lt-no}
 use native.Mathlib.Omega.{arith}
-use Rattle.xrtree.proofs.Extra.{keyBetween}
+use Rattle.xrtree.specs.Rules.{keyBetween}
 use Rattle.split.proofs.key_between.Statement.{statement}
 use Rattle.split.proofs.key_between.Tie as tie
 

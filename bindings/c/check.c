@@ -1,0 +1,108 @@
+/* The scope paper's example through the C header: a check that the header names the archive's functions as they are. */
+#include <stdio.h>
+#include <string.h>
+
+#include "sasnuvarth.h"
+
+static uint32_t outer[SASNUVARTH_IMAGE_WORDS], inner[SASNUVARTH_IMAGE_WORDS];
+static int wrong;
+
+static void expect(const char *what, unsigned long told, unsigned long right) {
+    if (told != right) {
+        printf("%s: %lu, not %lu\n", what, told, right);
+        wrong = 1;
+    }
+}
+
+static void save(uint32_t *image, uint32_t start, uint32_t end, uint32_t level, uint32_t reference) {
+    expect("save", sasnuvarth_save(image, SASNUVARTH_IMAGE_WORDS, 0, start, end, level, reference), SASNUVARTH_DONE);
+}
+
+static void expect_words(const char *what, const uint32_t *told, const uint32_t *right, size_t words) {
+    expect(what, memcmp(told, right, words * sizeof *told) != 0, 0);
+}
+
+static void check_searches(void) {
+    uint32_t out[24];
+    const uint32_t holding[] = {10, 90, 1, 101, 20, 50, 2, 102, 30, 40, 3, 103};
+    const uint32_t held[] = {20, 50, 2, 102, 30, 40, 3, 103};
+    const uint32_t below[] = {20, 50, 2, 102, 60, 80, 2, 104};
+    struct sasnuvarth_ancestors_answer a = sasnuvarth_ancestors(outer, SASNUVARTH_IMAGE_WORDS, 0, 35, out, 24);
+    expect("ancestors", a.number, SASNUVARTH_DONE);
+    expect("ancestors' total", a.total, 3);
+    expect("ancestors' steps", a.steps, 1);
+    expect_words("ancestors' words", out, holding, 12);
+    struct sasnuvarth_parent_answer p = sasnuvarth_parent(outer, SASNUVARTH_IMAGE_WORDS, 0, 35, 4);
+    expect("parent", p.number, SASNUVARTH_DONE);
+    expect("parent found", p.found, true);
+    expect("parent's start", p.start, 30);
+    expect("parent's end", p.end, 40);
+    expect("parent's level", p.level, 3);
+    expect("parent's reference", p.reference, 103);
+    struct sasnuvarth_list_answer d = sasnuvarth_descendants(outer, SASNUVARTH_IMAGE_WORDS, 0, 10, 90, 0, out, 8);
+    expect("descendants", d.number, SASNUVARTH_DONE);
+    expect("descendants' count", d.count, 2);
+    expect("more descendants", d.more, true);
+    expect_words("descendants' words", out, held, 8);
+    struct sasnuvarth_list_answer c = sasnuvarth_children(outer, SASNUVARTH_IMAGE_WORDS, 0, 10, 90, 1, 0, out, 24);
+    expect("children", c.number, SASNUVARTH_DONE);
+    expect("children's count", c.count, 2);
+    expect("more children", c.more, false);
+    expect_words("children's words", out, below, 8);
+}
+
+static void check_join(void) {
+    uint32_t out[20];
+    const uint32_t pairs[] = {10, 101, 35, 201, 20, 102, 35, 201, 30, 103, 35, 201, 10, 101, 70, 202, 60, 104, 70, 202};
+    const size_t n = SASNUVARTH_IMAGE_WORDS;
+    struct sasnuvarth_join_answer j = sasnuvarth_join(outer, n, inner, n, 0, SASNUVARTH_BY_ANCESTOR, out, 20);
+    expect("join", j.number, SASNUVARTH_DONE);
+    expect("join's total", j.total, 5);
+    expect_words("join's words", out, pairs, 20);
+    expect("join of account 16", sasnuvarth_join(outer, n, inner, n, 16, 0, out, 20).number, SASNUVARTH_ACCOUNT);
+}
+
+static void check_desk(void) {
+    static uint32_t buffer[SASNUVARTH_BUFFER_WORDS];
+    const size_t n = SASNUVARTH_IMAGE_WORDS;
+    struct sasnuvarth_desk_answer s = sasnuvarth_open_seat(sasnuvarth_open_desk(), 1, 0, SASNUVARTH_BY_ANCESTOR, 3);
+    expect("open seat", s.number, SASNUVARTH_DONE);
+    struct sasnuvarth_round_answer r = sasnuvarth_round(outer, n, inner, n, s.desk, buffer, SASNUVARTH_BUFFER_WORDS);
+    expect("round", r.number, SASNUVARTH_DONE);
+    expect("first count", r.counts[1], 3);
+    expect("mark's a", r.desk.seats[1].a, 30);
+    expect("mark's d", r.desk.seats[1].d, 35);
+    struct sasnuvarth_part_answer p = sasnuvarth_part(r.desk, buffer, SASNUVARTH_BUFFER_WORDS, 1, r.counts[1]);
+    expect("part", p.number, SASNUVARTH_DONE);
+    expect("part's first", p.first, 128);
+    expect("part's words", p.words, 12);
+    expect("part's last", buffer[p.first + p.words - 1], 201);
+    r = sasnuvarth_round(outer, n, inner, n, r.desk, buffer, SASNUVARTH_BUFFER_WORDS);
+    expect("second count", r.counts[1], 2);
+    s = sasnuvarth_close_seat(r.desk, 1);
+    expect("close seat", s.number, SASNUVARTH_DONE);
+    expect("closed", s.desk.seats[1].opened, 0);
+    expect("close again", sasnuvarth_close_seat(s.desk, 1).number, SASNUVARTH_SEAT);
+}
+
+int main(void) {
+    const uint32_t shares[16] = {10};
+    expect("open outer", sasnuvarth_open_set(outer, SASNUVARTH_IMAGE_WORDS, shares), SASNUVARTH_DONE);
+    expect("open inner", sasnuvarth_open_set(inner, SASNUVARTH_IMAGE_WORDS, shares), SASNUVARTH_DONE);
+    expect("open less", sasnuvarth_open_set(outer, SASNUVARTH_IMAGE_WORDS - 1, shares), SASNUVARTH_IMAGE);
+    save(outer, 10, 90, 1, 101);
+    save(outer, 20, 50, 2, 102);
+    save(outer, 30, 40, 3, 103);
+    save(outer, 60, 80, 2, 104);
+    save(inner, 35, 36, 4, 201);
+    save(inner, 70, 71, 3, 202);
+    check_searches();
+    check_join();
+    check_desk();
+    expect("delete", sasnuvarth_delete(outer, SASNUVARTH_IMAGE_WORDS, 0, 30), SASNUVARTH_DONE);
+    expect("delete again", sasnuvarth_delete(outer, SASNUVARTH_IMAGE_WORDS, 0, 30), SASNUVARTH_ABSENT);
+    if (!wrong) {
+        puts("the C header: all answers right");
+    }
+    return wrong;
+}

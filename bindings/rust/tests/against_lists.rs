@@ -1,0 +1,476 @@
+//! Histories of calls, each answer and every lent word compared with the plain definitions in `plain`.
+
+mod plain;
+
+use plain::chance::{nest, Chance, Shape, SHAPES};
+use plain::image::{read, Read};
+use plain::*;
+use sasnuvarth::raw::*;
+use sasnuvarth::{Ancestors, Kind, Listed, Refusal, Region, IMAGE_WORDS};
+
+/// A set as the library has it, and what it should mean: none where the image is not valid.
+struct Side {
+    image: Vec<u32>,
+    held: Option<Set>,
+}
+
+fn open(shares: [u32; 16]) -> Side {
+    let mut image = vec![0xDEAD_BEEF; IMAGE_WORDS];
+    assert_eq!(sasnuvarth::open_set(&mut image, &shares), Ok(()));
+    Side { image, held: Some(Set::empty(shares)) }
+}
+
+// ---- calls that change a set
+
+/// The number of a call on a set: IMAGE first.
+fn number_of(held: &Option<Set>, own: impl Fn(&Set) -> u32) -> u32 {
+    held.as_ref().map_or(IMAGE, own)
+}
+
+fn check_open(image: &[u32], shares: [u32; 16]) {
+    let mut after = image.to_vec();
+    let number = unsafe { sasnuvarth_open_set(after.as_mut_ptr(), after.len(), shares.as_ptr()) };
+    assert_eq!(number, open_number(image.len(), &shares));
+    if number == 0 {
+        assert_eq!(read(&after).expect("an opened image is valid").set, Set::empty(shares));
+        let mut other = vec![7; IMAGE_WORDS];
+        assert_eq!(sasnuvarth::open_set(&mut other, &shares), Ok(()));
+        assert_eq!(after, other, "an opening reads no old word");
+    } else {
+        assert_eq!(after, image);
+        assert_eq!(sasnuvarth::open_set(&mut after, &shares).err(), Refusal::of(number));
+    }
+}
+
+fn check_save(side: &mut Side, account: u32, r: Region) -> u32 {
+    let before = side.image.clone();
+    let image = &mut side.image;
+    let number = unsafe { sasnuvarth_save(image.as_mut_ptr(), image.len(), account, r.start, r.end, r.level, r.reference) };
+    assert_eq!(number, number_of(&side.held, |s| s.save_number(account, &r)), "save {r:?} in {account}");
+    if number != 0 {
+        assert_eq!(*image, before, "a refusal changes no word");
+    } else if let Some(set) = &mut side.held {
+        set.regions.push(r);
+    }
+    let mut again = before;
+    assert_eq!(sasnuvarth::save(&mut again, account, r).err(), Refusal::of(number));
+    assert_eq!(again, *image);
+    number
+}
+
+fn check_delete(side: &mut Side, account: u32, start: u32) -> u32 {
+    let before = side.image.clone();
+    let image = &mut side.image;
+    let number = unsafe { sasnuvarth_delete(image.as_mut_ptr(), image.len(), account, start) };
+    assert_eq!(number, number_of(&side.held, |s| s.delete_number(account, start)), "delete {start} of {account}");
+    if number != 0 {
+        assert_eq!(*image, before, "a refusal changes no word");
+    } else if let Some(set) = &mut side.held {
+        set.regions.retain(|r| r.start != start);
+    }
+    let mut again = before;
+    assert_eq!(sasnuvarth::delete(&mut again, account, start).err(), Refusal::of(number));
+    assert_eq!(again, *image);
+    number
+}
+
+// ---- searches: each takes what the image means, and the words to lend
+
+fn expect_items(number: u32, out: &[u32], items: Vec<[u32; 4]>) -> (usize, usize, Vec<u32>) {
+    let items = if number == 0 { items } else { Vec::new() };
+    (items.len(), items.len().min(out.len() / 4), written(out, &items))
+}
+
+fn check_ancestors(image: &[u32], meant: &Option<Read>, account: u32, p: u32, lent: &[u32]) {
+    let number = meant.as_ref().map_or(IMAGE, |m| m.set.point_number(account, p));
+    let found = meant.as_ref().map_or(Vec::new(), |m| m.set.ancestors(p));
+    let (total, _, words) = expect_items(number, lent, region_words(&found));
+    let steps = meant.as_ref().filter(|_| number == 0).map_or(0, |m| m.steps(p));
+    let mut out = lent.to_vec();
+    let told = unsafe { sasnuvarth_ancestors(image.as_ptr(), image.len(), account, p, out.as_mut_ptr(), out.len()) };
+    assert_eq!((told.number, told.total, told.steps), (number, total, steps), "ancestors of {p} in {account}");
+    assert!(steps <= 4 + 2 * total);
+    assert_eq!(out, words);
+    let mut out = lent.to_vec();
+    let safe = sasnuvarth::ancestors(image, account, p, &mut out);
+    assert_eq!(safe, Refusal::of(number).map_or(Ok(Ancestors { total, steps }), Err));
+    assert_eq!(out, words);
+}
+
+fn check_parent(image: &[u32], meant: &Option<Read>, account: u32, p: u32, level: u32) {
+    let number = meant.as_ref().map_or(IMAGE, |m| m.set.point_number(account, p));
+    let found = meant.as_ref().filter(|_| number == 0).and_then(|m| m.set.parent(p, level));
+    let told = unsafe { sasnuvarth_parent(image.as_ptr(), image.len(), account, p, level) };
+    let r = found.unwrap_or(Region { start: 0, end: 0, level: 0, reference: 0 });
+    assert_eq!((told.number, told.found), (number, found.is_some()), "parent of {p} at {level} in {account}");
+    assert_eq!((told.start, told.end, told.level, told.reference), (r.start, r.end, r.level, r.reference));
+    assert_eq!(sasnuvarth::parent(image, account, p, level), Refusal::of(number).map_or(Ok(found), Err));
+}
+
+/// Bounds of a descendant search; with a level, of a child search.
+#[derive(Clone, Copy, Debug)]
+struct Bounds {
+    account: u32,
+    start: u32,
+    end: u32,
+    after: u32,
+    level: Option<u32>,
+}
+
+fn check_inward(image: &[u32], meant: &Option<Read>, b: Bounds, lent: &[u32]) {
+    let Bounds { account, start, end, after, level } = b;
+    let number = meant.as_ref().map_or(IMAGE, |m| m.set.bounds_number(account, start, end));
+    let found = meant.as_ref().map_or(Vec::new(), |m| match level {
+        None => m.set.descendants(start, end, after),
+        Some(l) => m.set.children(start, end, l, after),
+    });
+    let (total, count, words) = expect_items(number, lent, region_words(&found));
+    let more = count < total;
+    let mut out = lent.to_vec();
+    let (i, n, o, m) = (image.as_ptr(), image.len(), out.as_mut_ptr(), out.len());
+    let told = match level {
+        None => unsafe { sasnuvarth_descendants(i, n, account, start, end, after, o, m) },
+        Some(l) => unsafe { sasnuvarth_children(i, n, account, start, end, l, after, o, m) },
+    };
+    assert_eq!((told.number, told.count, told.more), (number, count, more), "{b:?}");
+    assert_eq!(out, words);
+    let mut out = lent.to_vec();
+    let safe = match level {
+        None => sasnuvarth::descendants(image, account, start, end, after, &mut out),
+        Some(l) => sasnuvarth::children(image, account, start, end, l, after, &mut out),
+    };
+    assert_eq!(safe, Refusal::of(number).map_or(Ok(Listed { count, more }), Err));
+    assert_eq!(out, words);
+}
+
+fn check_join(outer: (&[u32], &Option<Read>), inner: (&[u32], &Option<Read>), account: u32, kind: u32, lent: &[u32]) {
+    let both = outer.1.as_ref().zip(inner.1.as_ref());
+    let number = both.map_or(IMAGE, |_| join_number(account));
+    let pairs = both.map_or(Vec::new(), |(x, y)| joined(&x.set, &y.set, account, kind != 0));
+    let (total, _, words) = expect_items(number, lent, pair_words(&pairs));
+    let (x, y, mut out) = (outer.0, inner.0, lent.to_vec());
+    let told = unsafe { sasnuvarth_join(x.as_ptr(), x.len(), y.as_ptr(), y.len(), account, kind, out.as_mut_ptr(), out.len()) };
+    assert_eq!((told.number, told.total), (number, total), "join of {account} by {kind}");
+    assert_eq!(out, words);
+    let mut out = lent.to_vec();
+    let safe = sasnuvarth::join(x, y, account, if kind == 0 { Kind::Ancestor } else { Kind::Parent }, &mut out);
+    assert_eq!(safe, Refusal::of(number).map_or(Ok(total), Err));
+    assert_eq!(out, words);
+}
+
+// ---- arguments by chance
+
+/// Positions worth asking: at and beside starts and ends, elsewhere in their documents, and far off.
+fn position(chance: &mut Chance, near: &[Region]) -> u32 {
+    if near.is_empty() || chance.percent(8) {
+        return chance.pick(&[0, 1, 100, 65_535, 65_536, 268_435_455, 268_435_456, u32::MAX]);
+    }
+    let r = chance.pick(near);
+    match chance.below(20) {
+        0..=5 => r.start,
+        6..=8 => r.end,
+        9..=11 => r.start.wrapping_add(1),
+        12 => r.start.wrapping_sub(1),
+        13..=14 => r.end.wrapping_add(1),
+        15..=16 => r.end.wrapping_sub(1),
+        17 => r.start.wrapping_add(chance.below(65_536)),
+        18 => chance.word(),
+        _ => r.start / 2 + r.end / 2,
+    }
+}
+
+fn account_for(chance: &mut Chance, p: u32) -> u32 {
+    match chance.below(20) {
+        0 => 16,
+        1 => chance.word(),
+        2 => chance.below(16),
+        _ => account_of(p),
+    }
+}
+
+fn level(chance: &mut Chance) -> u32 {
+    match chance.below(12) {
+        0 => 0,
+        1 => chance.pick(&[255, 256, u32::MAX]),
+        _ => 1 + chance.below(6),
+    }
+}
+
+fn lent_words(chance: &mut Chance) -> Vec<u32> {
+    let n = match chance.below(5) {
+        0 => chance.below(9),
+        1 => chance.below(100),
+        2 => 0,
+        _ => chance.below(2200),
+    };
+    chance.words(n as usize)
+}
+
+/// A region to save: one that was set aside, or made of two positions.
+fn candidate(chance: &mut Chance, pool: &[Region]) -> Region {
+    if !pool.is_empty() && chance.percent(70) {
+        return chance.pick(pool);
+    }
+    let start = position(chance, pool);
+    let end = if chance.percent(50) { position(chance, pool) } else { start.wrapping_add(chance.below(30)) };
+    Region { start, end, level: level(chance), reference: chance.word() }
+}
+
+/// Reads both images, compares what they mean, and asks some searches and joins of them.
+fn look(chance: &mut Chance, outer: &Side, inner: &Side, pool: &[Region], asks: u32) {
+    let (x, y) = (read(&outer.image), read(&inner.image));
+    for (meant, side) in [(&x, outer), (&y, inner)] {
+        assert_eq!(meant.as_ref().map(|m| m.set.clone()), side.held.as_ref().map(Set::sorted), "what the image means");
+    }
+    for _ in 0..asks {
+        let (image, meant) = if chance.percent(50) { (&outer.image, &x) } else { (&inner.image, &y) };
+        let p = position(chance, pool);
+        let account = account_for(chance, p);
+        let lent = lent_words(chance);
+        let (end, after) = (position(chance, pool), if chance.percent(60) { 0 } else { position(chance, pool) });
+        let l = level(chance);
+        match chance.below(6) {
+            0 => check_ancestors(image, meant, account, p, &lent),
+            1 => check_parent(image, meant, account, p, l),
+            2 => check_inward(image, meant, Bounds { account, start: p, end, after, level: None }, &lent),
+            3 => check_inward(image, meant, Bounds { account, start: p, end, after, level: Some(l) }, &lent),
+            4 => check_join((&outer.image, &x), (&inner.image, &y), account, chance.below(3), &lent),
+            _ => check_join((image, meant), (image, meant), account, chance.below(3), &lent),
+        }
+    }
+}
+
+fn one_change(chance: &mut Chance, side: &mut Side, pool: &[Region], saves: u32) -> u32 {
+    if chance.percent(saves) {
+        let r = candidate(chance, pool);
+        let account = account_for(chance, r.start);
+        return check_save(side, account, r);
+    }
+    let held = side.held.as_ref().map_or(&pool[..], |s| &s.regions);
+    let start = if chance.percent(80) && !held.is_empty() { chance.pick(held).start } else { position(chance, pool) };
+    let account = account_for(chance, start);
+    check_delete(side, account, start)
+}
+
+// ---- the tests
+
+/// Many small sets in tight places, where most things meet.
+#[test]
+fn short_histories() {
+    let mut met = [0u32; 9];
+    for seed in 0..300 {
+        let chance = &mut Chance::new(seed);
+        let account = chance.pick(&[0, 1, 7, 15]);
+        let base = account * 268_435_456 + chance.below(4096) * 65_536 + chance.pick(&[0, 0, 64_000]);
+        let (shape, gap, n) = (SHAPES[seed as usize % 3], 1 + chance.below(3), 10 + chance.below(60));
+        let pool = nest(chance, shape, base, gap, n);
+        let mut shares = [2; 16];
+        shares[account as usize] = chance.pick(&[0, 1, 5, 30, 100, 470]);
+        let (mut outer, mut inner) = (open(shares), open(shares));
+        for step in 0..60 {
+            let side = if chance.percent(60) { &mut outer } else { &mut inner };
+            met[one_change(chance, side, &pool, 75) as usize] += 1;
+            if step % 4 == 0 {
+                look(chance, &outer, &inner, &pool, 6);
+            }
+        }
+    }
+    println!("numbers of saves and deletes: {met:?}");
+    assert!([0, 2, 3, 4, 5, 6, 7].iter().all(|&n| met[n] > 20), "every number is met: {met:?}");
+}
+
+/// Sets grown to 500 regions, changed for long, and emptied, in each shape and order.
+fn long_history(seed: u64, shape: Shape, order: u32, accounts: u32) {
+    let chance = &mut Chance::new(seed);
+    let mut shares = [0; 16];
+    let mut pool = Vec::new();
+    for i in 0..accounts {
+        let (account, n) = (15 - 3 * i, 500 / accounts);
+        shares[account as usize] = n;
+        let (gap, document) = (chance.pick(&[1, 3, 50]), chance.below(4096));
+        pool.extend(nest(chance, shape, account * 268_435_456 + 65_536 * document, gap, n + 20));
+    }
+    match order {
+        0 => pool.sort_by_key(|r| r.start),
+        1 => pool.sort_by_key(|r| std::cmp::Reverse(r.start)),
+        _ => chance.shuffle(&mut pool),
+    }
+    let (mut outer, mut inner) = (open(shares), open(shares));
+    for (i, r) in pool.iter().enumerate() {
+        check_save(&mut outer, account_of(r.start), *r);
+        if i % 2 == 0 {
+            check_save(&mut inner, account_of(r.start), *r);
+        }
+        if i % 40 == 0 {
+            look(chance, &outer, &inner, &pool, 8);
+        }
+    }
+    assert_eq!(outer.held.as_ref().unwrap().regions.len(), 500 / accounts as usize * accounts as usize);
+    look(chance, &outer, &inner, &pool, 60);
+    for step in 0..200 {
+        one_change(chance, &mut outer, &pool, 55);
+        if step % 40 == 0 {
+            look(chance, &outer, &inner, &pool, 8);
+        }
+    }
+    let mut starts: Vec<u32> = outer.held.as_ref().unwrap().regions.iter().map(|r| r.start).collect();
+    match chance.below(3) {
+        0 => starts.sort(),
+        1 => starts.sort_by_key(|&s| std::cmp::Reverse(s)),
+        _ => chance.shuffle(&mut starts),
+    }
+    for (i, &start) in starts.iter().enumerate() {
+        assert_eq!(check_delete(&mut outer, account_of(start), start), 0);
+        if i % 40 == 0 {
+            look(chance, &outer, &inner, &pool, 8);
+        }
+    }
+    look(chance, &outer, &inner, &pool, 8);
+}
+
+#[test]
+fn long_histories_flat() {
+    (0..3).for_each(|order| long_history(100 + u64::from(order), Shape::Flat, order, 1 + order));
+}
+
+#[test]
+fn long_histories_mixed() {
+    (0..3).for_each(|order| long_history(200 + u64::from(order), Shape::Mixed, order, 3 - order));
+}
+
+#[test]
+fn long_histories_deep() {
+    (0..3).for_each(|order| long_history(300 + u64::from(order), Shape::Deep, order, 1 + order));
+}
+
+/// A word that an image uses, more often than not.
+fn some_place(chance: &mut Chance, image: &[u32]) -> usize {
+    let page = |c: &mut Chance| 57 * (1 + c.below(160) as usize);
+    let record = |c: &mut Chance| 9177 + 6 * (1 + c.below(500) as usize);
+    match chance.below(10) {
+        0 => chance.below(18) as usize,
+        1 => chance.below(IMAGE_WORDS as u32) as usize,
+        2..=5 => {
+            let at = (0..40).map(|_| page(chance)).find(|&p| image[p] != 0).unwrap_or(57);
+            at + chance.below(57) as usize
+        }
+        6 => page(chance) + chance.below(3) as usize,
+        _ => {
+            let at = (0..40).map(|_| record(chance)).find(|&q| image[q + 1] != 0).unwrap_or(9183);
+            at + chance.below(6) as usize
+        }
+    }
+}
+
+fn damage(chance: &mut Chance, image: &mut [u32]) {
+    let (i, j) = (some_place(chance, image), some_place(chance, image));
+    match chance.below(7) {
+        0 => image[i] = chance.word(),
+        1 => image[i] = image[i].wrapping_add(1),
+        2 => image[i] = image[i].wrapping_sub(1),
+        3 => image[i] = 0,
+        4 => image[i] = image[j],
+        5 => image.swap(i, j),
+        _ => image[i] = 1 + chance.below(10),
+    }
+}
+
+/// Images with a word or a few changed. Where the seven rules still hold, the image means a set, perhaps another one, and every
+/// call is held to that; where they do not, every call answers IMAGE and leaves all words.
+#[test]
+fn damaged_images() {
+    let (mut refused, mut changed, mut same) = (0, 0, 0);
+    for seed in 0..40 {
+        let chance = &mut Chance::new(1000 + seed);
+        let n = chance.pick(&[3, 8, 9, 40, 120, 300, 500]);
+        let mut pool = nest(chance, SHAPES[seed as usize % 3], 65_536 * 5, 3, n);
+        chance.shuffle(&mut pool);
+        let mut good = open([500, 0, 0, 0, 0, 0, 0, 0, 0, 0, 0, 0, 0, 0, 0, 0]);
+        for r in &pool {
+            check_save(&mut good, 0, *r);
+        }
+        let was = good.held.as_ref().unwrap().sorted();
+        for _ in 0..40 {
+            let mut image = good.image.clone();
+            (0..1 + chance.below(3)).for_each(|_| damage(chance, &mut image));
+            let held = read(&image).map(|m| m.set);
+            match &held {
+                None => refused += 1,
+                Some(set) if *set == was => same += 1,
+                Some(_) => changed += 1,
+            }
+            let mut bad = Side { image, held };
+            look(chance, &bad, &good, &pool, 3);
+            look(chance, &good, &bad, &pool, 2);
+            one_change(chance, &mut bad, &pool, 100);
+            one_change(chance, &mut bad, &pool, 0);
+            check_open(&bad.image, [chance.below(40); 16]);
+        }
+    }
+    println!("damaged images: {refused} not valid, {changed} of another set, {same} of the same");
+    assert!(refused > 300 && changed > 30 && same > 100);
+}
+
+/// Lent words that are no image by their number.
+#[test]
+fn other_lengths() {
+    let chance = &mut Chance::new(7);
+    let mut good = open([30; 16]);
+    let pool = nest(chance, Shape::Mixed, 65_536, 2, 30);
+    for r in &pool {
+        assert_eq!(check_save(&mut good, 0, *r), 0);
+    }
+    for n in [0, 1, 57, 12_287, 12_289, 24_576] {
+        let mut image = good.image.clone();
+        image.resize(n, 0);
+        check_open(&image, [30; 16]);
+        check_open(&image, [32; 16]);
+        let mut bad = Side { image, held: None };
+        look(chance, &bad, &good, &pool, 20);
+        look(chance, &good, &bad, &pool, 20);
+        one_change(chance, &mut bad, &pool, 100);
+        one_change(chance, &mut bad, &pool, 0);
+    }
+    check_open(&good.image, [31; 16]);
+    check_open(&good.image, [32; 16]);
+    check_open(&good.image, [u32::MAX; 16]);
+}
+
+fn starts(out: &[u32], n: usize) -> Vec<u32> {
+    out.chunks_exact(4).take(n).map(|r| r[0]).collect()
+}
+
+/// The scope paper's own examples.
+#[test]
+fn bench_examples() {
+    let mut shares = [0; 16];
+    shares[0] = 10;
+    let mut outer = open(shares).image;
+    let region = |start, end, level, reference| Region { start, end, level, reference };
+    for r in [region(10, 90, 1, 101), region(20, 50, 2, 102), region(30, 40, 3, 103), region(60, 80, 2, 104)] {
+        assert_eq!(sasnuvarth::save(&mut outer, 0, r), Ok(()));
+    }
+    let out = &mut [0; 64];
+    for (p, right) in [(35, &[10, 20, 30][..]), (30, &[10, 20]), (40, &[10, 20]), (10, &[]), (90, &[])] {
+        let told = sasnuvarth::ancestors(&outer, 0, p, out).unwrap();
+        assert_eq!(starts(out, told.total), right);
+    }
+    for ((start, end), right) in [((10, 90), &[20, 30, 60][..]), ((20, 50), &[30])] {
+        let told = sasnuvarth::descendants(&outer, 0, start, end, 0, out).unwrap();
+        assert_eq!((starts(out, told.count), told.more), (right.to_vec(), false));
+    }
+    assert_eq!(sasnuvarth::parent(&outer, 0, 35, 4).unwrap().map(|r| r.start), Some(30));
+    assert_eq!(sasnuvarth::parent(&outer, 0, 35, 1), Ok(None));
+    assert_eq!(sasnuvarth::save(&mut outer, 0, region(30, 45, 1, 0)), Err(Refusal::Held));
+    assert_eq!(sasnuvarth::save(&mut outer, 0, region(45, 55, 1, 0)), Err(Refusal::Cross));
+    assert_eq!(sasnuvarth::save(&mut outer, 0, region(50, 55, 1, 0)), Err(Refusal::Cross));
+    assert_eq!(sasnuvarth::save(&mut outer, 0, region(7, 7, 1, 0)), Err(Refusal::Region));
+    assert_eq!(sasnuvarth::save(&mut outer, 0, region(65_530, 65_540, 1, 0)), Err(Refusal::Region));
+    let mut inner = open(shares).image;
+    for start in [25, 35, 55, 70, 95] {
+        assert_eq!(sasnuvarth::save(&mut inner, 0, region(start, start + 1, 3, 0)), Ok(()));
+    }
+    assert_eq!(sasnuvarth::join(&outer, &inner, 0, Kind::Ancestor, out), Ok(8));
+    let ds: Vec<u32> = out.chunks_exact(4).take(8).map(|q| q[2]).collect();
+    assert_eq!(ds, [25, 25, 35, 35, 35, 55, 70, 70]);
+}

@@ -1,0 +1,165 @@
+//! The scope paper's definitions by brute force: a set is a list of regions in no order, and every answer is worked out by looking
+//! at all of them. Nothing here knows of trees; `image` reads an image's words, `chance` makes inputs.
+#![allow(dead_code)]
+
+pub mod chance;
+pub mod desk;
+pub mod image;
+
+use sasnuvarth::Region;
+
+pub const IMAGE: u32 = 1;
+pub const REGION: u32 = 2;
+pub const ACCOUNT: u32 = 3;
+pub const HELD: u32 = 4;
+pub const CROSS: u32 = 5;
+pub const SHARE: u32 = 6;
+pub const ABSENT: u32 = 7;
+pub const SHARES: u32 = 8;
+
+pub fn document_of(p: u32) -> u32 {
+    p / 65_536
+}
+
+pub fn account_of(p: u32) -> u32 {
+    p / 268_435_456
+}
+
+pub fn well_bound(start: u32, end: u32) -> bool {
+    start < end && document_of(start) == document_of(end)
+}
+
+pub fn well_formed(r: &Region) -> bool {
+    well_bound(r.start, r.end) && r.level >= 1 && r.level <= 255
+}
+
+pub fn nested(x: &Region, y: &Region) -> bool {
+    let apart = x.end < y.start || y.end < x.start;
+    let around = |a: &Region, b: &Region| a.start < b.start && b.end < a.end;
+    apart || around(x, y) || around(y, x)
+}
+
+pub fn holds(r: &Region, p: u32) -> bool {
+    r.start < p && p < r.end
+}
+
+fn foreign(account: u32, p: u32) -> bool {
+    account > 15 || account_of(p) != account
+}
+
+#[derive(Clone, Debug, PartialEq, Eq)]
+pub struct Set {
+    pub shares: [u32; 16],
+    pub regions: Vec<Region>,
+}
+
+fn ascending(mut regions: Vec<Region>) -> Vec<Region> {
+    regions.sort_by_key(|r| r.start);
+    regions
+}
+
+pub fn open_number(words: usize, shares: &[u32; 16]) -> u32 {
+    let sum: u64 = shares.iter().map(|&s| u64::from(s)).sum();
+    match () {
+        _ if words != 12_288 => IMAGE,
+        _ if sum > 500 => SHARES,
+        _ => 0,
+    }
+}
+
+impl Set {
+    pub fn empty(shares: [u32; 16]) -> Set {
+        Set { shares, regions: Vec::new() }
+    }
+
+    /// The same set, its regions by start: for comparing.
+    pub fn sorted(&self) -> Set {
+        Set { shares: self.shares, regions: ascending(self.regions.clone()) }
+    }
+
+    fn held_by(&self, account: u32) -> usize {
+        self.regions.iter().filter(|r| account_of(r.start) == account).count()
+    }
+
+    pub fn save_number(&self, account: u32, r: &Region) -> u32 {
+        match () {
+            _ if !well_formed(r) => REGION,
+            _ if foreign(account, r.start) => ACCOUNT,
+            _ if self.regions.iter().any(|x| x.start == r.start) => HELD,
+            _ if self.regions.iter().any(|x| !nested(x, r)) => CROSS,
+            _ if self.held_by(account) >= self.shares[account as usize] as usize => SHARE,
+            _ => 0,
+        }
+    }
+
+    pub fn delete_number(&self, account: u32, start: u32) -> u32 {
+        match () {
+            _ if foreign(account, start) => ACCOUNT,
+            _ if !self.regions.iter().any(|x| x.start == start) => ABSENT,
+            _ => 0,
+        }
+    }
+
+    pub fn point_number(&self, account: u32, p: u32) -> u32 {
+        if foreign(account, p) { ACCOUNT } else { 0 }
+    }
+
+    pub fn bounds_number(&self, account: u32, start: u32, end: u32) -> u32 {
+        match () {
+            _ if !well_bound(start, end) => REGION,
+            _ if foreign(account, start) => ACCOUNT,
+            _ => 0,
+        }
+    }
+
+    pub fn ancestors(&self, p: u32) -> Vec<Region> {
+        ascending(self.regions.iter().filter(|r| holds(r, p)).copied().collect())
+    }
+
+    pub fn parent(&self, p: u32, level: u32) -> Option<Region> {
+        self.ancestors(p).into_iter().filter(|r| r.level.checked_add(1) == Some(level)).last()
+    }
+
+    pub fn descendants(&self, start: u32, end: u32, after: u32) -> Vec<Region> {
+        ascending(self.regions.iter().filter(|r| r.start > start && r.start < end && r.start > after).copied().collect())
+    }
+
+    pub fn children(&self, start: u32, end: u32, level: u32, after: u32) -> Vec<Region> {
+        self.descendants(start, end, after).into_iter().filter(|r| level.checked_add(1) == Some(r.level)).collect()
+    }
+}
+
+pub fn join_number(account: u32) -> u32 {
+    if account > 15 { ACCOUNT } else { 0 }
+}
+
+/// The pairs (a, d) of an account.
+pub fn joined(outer: &Set, inner: &Set, account: u32, by_parent: bool) -> Vec<(Region, Region)> {
+    let mut pairs = Vec::new();
+    for a in outer.regions.iter().filter(|a| account_of(a.start) == account) {
+        for d in inner.regions.iter().filter(|d| account_of(d.start) == account) {
+            if holds(a, d.start) && (!by_parent || a.level + 1 == d.level) {
+                pairs.push((*a, *d));
+            }
+        }
+    }
+    pairs.sort_by_key(|(a, d)| (d.start, a.start));
+    pairs
+}
+
+/// Lent words after items of four were written into them, as many as fit.
+pub fn written(out: &[u32], items: &[[u32; 4]]) -> Vec<u32> {
+    let mut after = out.to_vec();
+    for (room, item) in after.chunks_exact_mut(4).zip(items) {
+        room.copy_from_slice(item);
+    }
+    after
+}
+
+pub fn region_words(regions: &[Region]) -> Vec<[u32; 4]> {
+    regions.iter().map(|r| [r.start, r.end, r.level, r.reference]).collect()
+}
+
+pub fn pair_words(pairs: &[(Region, Region)]) -> Vec<[u32; 4]> {
+    pairs.iter().map(|(a, d)| [a.start, a.reference, d.start, d.reference]).collect()
+}

@@ -1,0 +1,26 @@
+-- The parent search's answer as it is told; the join at a kind that is told by number.
+-- Assumes nothing.
+use Prim.Native.Nat.{ℕ}
+use mathlib.Core.Path.{_≡_, refl, subst}
+use mathlib.Core.List.{List}
+use Rattle.words.specs.Lists.{some}
+use Rattle.regions.specs.declared.Kind.{Kind}
+use Rattle.index.specs.Joins.{JoinsSets}
+use Rattle.index.specs.Searches.{FindsParent, parentNumber, parentFound}
+use Rattle.index.specs.declared.Parent.{Parent}
+use Rattle.capi.specs.Border.{told, TellsParent}
+
+-- what is told of an answer that is known
+pub tells : (w : List ℕ) (account p level : ℕ) (answer known : Parent)
+    → FindsParent w account p level answer
+    → answer ≡ known
+    → TellsParent w account p level (parentNumber known) (some (parentFound known)) (told (parentFound known))
+tells w account p level answer known finds is =
+    record { answer = known; finds = subst (FindsParent w account p level) is finds; number-is = refl; found-is = refl; region-is = refl }
+
+pub joins-at : {outer inner : List ℕ} {account : ℕ} {k k′ : Kind} {out : List ℕ} {number total : ℕ} {out′ : List ℕ}
+    → k ≡ k′
+    → JoinsSets outer inner account k out number total out′
+    → JoinsSets outer inner account k′ out number total out′
+joins-at {outer} {inner} {account} {k} {k′} {out} {number} {total} {out′} is joins =
+    subst (λ (x : Kind). JoinsSets outer inner account x out number total out′) is joins

@@ -1,0 +1,37 @@
+// Save and delete on an image that is known to be valid: refused by the call's own tests, and then no word changes, or done.
+ghost use mathlib.Core.Path.{_≡_};
+ghost use Prim.Native.Nat.{_<_};
+ghost use lib.Dec.{T};
+ghost use lib.ListN.{getD};
+ghost use Rattle.regions.specs.Sets.{heldBy};
+ghost use Rattle.image.specs.Read.{setOf};
+ghost use Rattle.image.specs.Valid.{valid};
+ghost use Rattle.changes.specs.Changed.{SavesIn, DeletesIn};
+use regions::Region;
+
+// A save; the account's held regions have been counted.
+pub fn save(img: &mut [u32], account: u32, r: Region, held: [u32; 16]) -> u32
+    requires { ⌜ T (valid (now img)) ⌝ }
+    requires { ⌜ (account < 16 → getD held account 0 ≡ heldBy account (setOf (now img))) ⌝ }
+    ensures { λ n. ⌜ SavesIn (now (img .entry)) account r n (now (img .exit)) ⌝ }
+{
+    let number = refuse::save_number(img, account, r, held);
+    if number != 0 {
+        return number;
+    }
+    insert::insert(img, r);
+    0
+}
+
+// A delete of the region that starts at `start`.
+pub fn delete(img: &mut [u32], account: u32, start: u32) -> u32
+    requires { ⌜ T (valid (now img)) ⌝ }
+    ensures { λ n. ⌜ DeletesIn (now (img .entry)) account start n (now (img .exit)) ⌝ }
+{
+    let number = refuse::delete_number(img, account, start);
+    if number != 0 {
+        return number;
+    }
+    remove::remove(img, start);
+    0
+}

@@ -1,0 +1,37 @@
+-- What every set has that saves and deletes have made (document 01, "A valid image", rule 6, and the order in which a set is read), and the order of a join.
+-- Assumes nothing.
+use Prim.Native.Nat.{ℕ, _<_, _≤_}
+use mathlib.Core.Path.{_≡_}
+use mathlib.Core.Bool.{true}
+use mathlib.Core.List.{List}
+use Rattle.words.specs.Lists.{All, Pairs, sum}
+use Rattle.regions.specs.Positions.{wellFormed, nested}
+use Rattle.regions.specs.Sets.{Set, heldBy, shareOf}
+use Rattle.regions.specs.Calls.{Pair}
+use Rattle.regions.specs.Desk.{later}
+use Rattle.regions.specs.declared.Region.{Region}
+
+-- a region is well formed; starts ascend strictly; every two regions nest rightly
+abbrev pub Wf : Region → Type 0
+Wf r = wellFormed r ≡ true
+
+abbrev pub Rising : List Region → Type 0
+Rising rs = Pairs (λ x y. x .start < y .start) rs
+
+abbrev pub Nesting : List Region → Type 0
+Nesting rs = Pairs (λ x y. nested x y ≡ true) rs
+
+-- a set: all three, no account above its share, and shares that sum to at most 500
+pub record Sound (S : Set) : Type 0 where
+  pub formed : All Wf (S .regions)
+  pub rising : Rising (S .regions)
+  pub nesting : Nesting (S .regions)
+  pub within : (a : ℕ) → heldBy a S ≤ shareOf a S
+  pub shared : sum (S .shares) ≤ 500
+
+-- THE JOIN'S ORDER: q comes later than p; each pair later than all before it
+abbrev pub Then : Pair → Pair → Type 0
+Then p q = later (p .a .start) (p .d .start) q ≡ true
+
+abbrev pub Ascending : List Pair → Type 0
+Ascending ps = Pairs Then ps
