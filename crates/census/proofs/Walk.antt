@@ -1,6 +1,6 @@
 -- The pass over the regions of a leaf and of the children of an inner page, in the form of the loops' invariants; and the fills on the way down.
 -- Assumes nothing.
-use Prim.Native.Nat.{ℕ, zero, suc, _+_, _-_, _<_, _≤_}
+use Prim.Native.Nat.{ℕ, zero, suc, _+_, _-_, _<_, _≤_, zero-le}
 use mathlib.Core.Path.{_≡_, refl, sym, ap, _∙_}
 use mathlib.Core.List.{List, [], _∷_, _++_, map}
 use native.Mathlib.Omega.{arith}
@@ -8,6 +8,7 @@ use Rattle.regions.specs.declared.Region.{Region}
 use Rattle.xrtree.specs.Tree.{regionOf, listRegions}
 use Rattle.pages.specs.Layout.{pageOf, fillOf, regionIn, entryWord, childIn}
 use Rattle.image.specs.Read.{entriesFrom}
+use Rattle.image.specs.Fills.{FillsFrom}
 use Rattle.image.proofs.Listings.{listedAt, listedFrom, from-last, from-more, listed-leaf, listed-inner}
 use Rattle.census.specs.Pass.{Passed, enter, pass, regionsAt, Fills}
 
@@ -85,14 +86,21 @@ kids-all w h d p n m s ed em en =
     rw (z, ed) (ap (λ (l : List Region). pass l s) (inner-listed w h p))
 
 -- fills
+pub fills-any : (least h : ℕ) (w : List ℕ) (p : ℕ) → FillsFrom least h w p → Fills h w p
+unfolding Fills
+fills-any least zero w p f = (zero-le, f .1)
+fills-any least (suc h) w p f = (zero-le, f .1, f .2)
+
 pub fills-here : (h : ℕ) (w : List ℕ) (p : ℕ) → Fills h w p → fillOf (pageOf w p) ≤ 8
 unfolding Fills
-fills-here zero w p f = f
-fills-here (suc h) w p f = f .0
+fills-here zero w p f = f .1
+fills-here (suc h) w p f = f .1
 
 pub fills-leaf : (w : List ℕ) (d p : ℕ) → d ≡ 0 → Fills d w p → Fills 0 w p
 fills-leaf w d p e f = rw e at f
 
 pub fills-below : (w : List ℕ) (h d p i c : ℕ) → d ≡ suc h → i ≤ fillOf (pageOf w p) → c ≡ childIn (pageOf w p) i → Fills d w p → Fills h w c
 unfolding Fills
-fills-below w h d p i c ed l ec f = rw ec ((rw ed at f) .1 i l)
+fills-below w h d p i c ed l ec f =
+    let g : Fills (suc h) w p = rw ed at f in
+    rw ec (fills-any 4 h w (childIn (pageOf w p) i) (g .2 i l))

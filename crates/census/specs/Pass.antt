@@ -9,18 +9,17 @@ use Rattle.words.specs.Lists.{sum}
 use Rattle.regions.specs.Positions.{account, wellFormed}
 use Rattle.regions.specs.declared.Region.{Region}
 use Rattle.xrtree.specs.Tree.{regions}
-use Rattle.pages.specs.Layout.{pageOf, fillOf, childIn}
 use Rattle.image.specs.Read.{readTree}
+use Rattle.image.specs.Fills.{FillsFrom}
 use Rattle.census.specs.declared.Way.{Way}
 
 -- the regions below a place, from left to right
 unfoldable pub regionsAt : List ℕ → ℕ → ℕ → List Region
 regionsAt w h p = regions h (readTree h w p)
 
--- no page on the way down says that it has more than eight entries or keys
+-- the fills on the way down from a page that may hold as few as it likes: at most 8 everywhere, and at least 4 below it
 unfoldable pub Fills : ℕ → List ℕ → ℕ → Type 0
-Fills zero w p = fillOf (pageOf w p) ≤ 8
-Fills (suc h) w p = (fillOf (pageOf w p) ≤ 8) × ((i : ℕ) → i ≤ fillOf (pageOf w p) → Fills h w (childIn (pageOf w p) i))
+Fills h w p = FillsFrom 0 h w p
 
 -- ends of regions still open, innermost first: those before a start are closed
 unfoldable pub pop : ℕ → List ℕ → List ℕ

@@ -10,11 +10,12 @@ use lib.ListN.{length, length-append, length-map}
 use native.Mathlib.Omega.{arith}
 use Rattle.words.specs.Lists.{All, filter, count}
 use Rattle.words.proofs.Tests.{by-test, eq-of, and-left, and-right, of-T}
-use Rattle.words.proofs.Counted.{sum-count, pigeon}
+use Rattle.words.proofs.Counted.{sum-count, pigeon, filter-short}
 use Rattle.regions.specs.declared.Region.{Region}
 use Rattle.xrtree.specs.Tree.{Entry, Key, Leaf, Tree, weave, listed, listRecords, regionOf, regions, pagePlaces, recordPlaces}
 use Rattle.xrtree.proofs.Claims.{regionsIn, Between, Within, InKids, In, flagOf}
-use Rattle.xrtree.proofs.Box.{boxb, box, home, of-box, to-box}
+use Rattle.xrtree.proofs.Box.{boxb, box, to-box}
+use Rattle.xrtree.proofs.Count.{inner-three}
 use Rattle.xrtree.proofs.Local.{ListIs, LocalKids, Local, FlagKids, FlagsAre, LocalFlags}
 use Rattle.xrtree.proofs.Here.{Here, here-child, here-next}
 use Rattle.xrtree.proofs.Splice.{loAfter}
@@ -32,53 +33,9 @@ use Rattle.standing.proofs.Child.{aroundHole}
 use Rattle.standing.proofs.Counting.{all-counted}
 use Rattle.growth.specs.Ways.{idleIn, idle, between, RecordRoom, PageRoom}
 
--- COUNTING, region by region
-abbrev one : Bool → ℕ
-one true = 1
-one false = 0
-
-len-cons : (P : Region → Bool) (x : Region) (xs : List Region) → length (filter P (x ∷ xs)) ≡ one (P x) + length (filter P xs)
-unfolding filter
-len-cons P x xs = by-test (P x) (λ h. rw h (omega arith)) (λ h. rw h (omega arith))
-
-three : (p q r s : Bool) → (T p → T s) → (T q → T s) → (T r → T s) → (T p → T q → ⊥) → (T p → T r → ⊥) → (T q → T r → ⊥) → one p + one q + one r ≤ one s
-three true true r s a b c d e f = absurd (d tt tt)
-three true false true s a b c d e f = absurd (e tt tt)
-three true false false true a b c d e f = omega arith
-three true false false false a b c d e f = absurd (a tt)
-three false true true s a b c d e f = absurd (f tt tt)
-three false true false true a b c d e f = omega arith
-three false true false false a b c d e f = absurd (b tt)
-three false false true true a b c d e f = omega arith
-three false false true false a b c d e f = absurd (c tt)
-three false false false s a b c d e f = omega arith
-
-fit-three : (P Q R S : Region → Bool) → ((x : Region) → one (P x) + one (Q x) + one (R x) ≤ one (S x)) → (xs : List Region)
-    → length (filter P xs) + length (filter Q xs) + length (filter R xs) ≤ length (filter S xs)
-unfolding filter
-fit-three P Q R S f [] = omega arith
-fit-three P Q R S f (x ∷ xs) =
-    let n = fit-three P Q R S f xs in
-    let m = f x in
-    omega (arith, len-cons P x xs, len-cons Q x xs, len-cons R x xs, len-cons S x xs)
-
--- the regions between the bounds: those of a key, those left of it, those right of it
-between-three : (rs : List Region) (lo k hi : ℕ) → lo ≤ k → k < hi → length (home lo k hi rs) + length (between lo k rs) + length (between (suc k) hi rs) ≤ length (between lo hi rs)
-unfolding box
-between-three rs lo k hi l u =
-    fit-three (boxb lo (suc k) k hi) (boxb lo k 0 k) (boxb (suc k) hi 0 hi) (boxb lo hi 0 hi)
-    (λ x. three (boxb lo (suc k) k hi x) (boxb lo k 0 k x) (boxb (suc k) hi 0 hi x) (boxb lo hi 0 hi x)
-    (λ a. let i = of-box lo (suc k) k hi x a in to-box lo hi 0 hi x (omega arith))
-    (λ b. let i = of-box lo k 0 k x b in to-box lo hi 0 hi x (omega arith))
-    (λ c. let i = of-box (suc k) hi 0 hi x c in to-box lo hi 0 hi x (omega arith))
-    (λ a b. let i = of-box lo (suc k) k hi x a in let j = of-box lo k 0 k x b in omega arith)
-    (λ a c. let i = of-box lo (suc k) k hi x a in let j = of-box (suc k) hi 0 hi x c in omega arith)
-    (λ b c. omega (arith, of-box lo k 0 k x b, of-box (suc k) hi 0 hi x c))) rs
-
 pub between-few : (lo hi : ℕ) (rs : List Region) → length (between lo hi rs) ≤ length rs
-unfolding box filter
-between-few lo hi [] = omega arith
-between-few lo hi (x ∷ xs) = let n = between-few lo hi xs in by-test (boxb lo hi 0 hi x) (λ h. rw h (omega arith)) (λ h. rw h (omega arith))
+unfolding box
+between-few lo hi rs = filter-short (boxb lo hi 0 hi) rs
 
 -- a list is as long as its records
 abbrev Even : Key → Type 0
@@ -130,7 +87,7 @@ module _ (rs : List Region) where
       last-is n = unfold weave in n
   records-kids h ih lo hi (c ∷ cs) last i l e a =
       let k = c .1 .key in
-      omega (arith, more-records h c cs last, e .0, ap length (l .0), ih lo k (c .0) (i .1) (l .1) (a .0), records-kids h ih (suc k) hi cs last (i .2) (l .2) (e .1) (a .1), between-three rs lo k hi (i .0 .0) (i .0 .1))
+      omega (arith, more-records h c cs last, e .0, ap length (l .0), ih lo k (c .0) (i .1) (l .1) (a .0), records-kids h ih (suc k) hi cs last (i .2) (l .2) (e .1) (a .1), inner-three rs lo k hi (i .0 .0) (i .0 .1))
 
   pub records-few : (h : ℕ) (lo hi : ℕ) (t : Tree h) → In h lo hi t → Local h rs lo hi t → AllKeys Even h t → length (recordPlaces h t) ≤ length (between lo hi rs)
   unfolding listed
@@ -180,7 +137,7 @@ module _ (rs : List Region) where
         ap length (l .0),
         ih lo k (c .0) (i .1) (l .1) (f .1) (here-child h lo hi c cs last n i) (a .0),
         both-kids h ih (suc k) hi cs last (i .2) (l .2) (f .2) (here-next h lo hi c cs last n i) (e .1) (a .1),
-        between-three rs lo k hi (i .0 .0) (i .0 .1),
+        inner-three rs lo k hi (i .0 .0) (i .0 .1),
       )
 
   pub both-few : (h : ℕ) (lo hi : ℕ) (t : Tree h) → In h lo hi t → Local h rs lo hi t → LocalFlags h lo hi t → Here rs lo hi (regions h t) → AllKeys Even h t
@@ -203,7 +160,7 @@ module _ (rs : List Region) where
         e .0,
         ap length (l .0),
         records-kids h (λ lo hi c i l a. records-few h lo hi c i l a) (suc (k .key)) hi cs last (i .2) (l .2) (e .1) (a .1),
-        between-three rs lo (k .key) hi (i .0 .0) (i .0 .1),
+        inner-three rs lo (k .key) hi (i .0 .0) (i .0 .1),
       )
   hole-kids h lo hi [] atEnd t i l e a = omega arith
   hole-kids h lo hi (c ∷ pre) (atKey k cs last) t i l e a =
@@ -214,7 +171,7 @@ module _ (rs : List Region) where
         ap length (l .0),
         records-few h lo (c .1 .key) (c .0) (i .1) (l .1) (a .0),
         hole-kids h (suc (c .1 .key)) hi pre (atKey k cs last) t (i .2) (l .2) (e .1) (a .1),
-        between-three rs lo (c .1 .key) hi (i .0 .0) (i .0 .1),
+        inner-three rs lo (c .1 .key) hi (i .0 .0) (i .0 .1),
       )
   hole-kids h lo hi (c ∷ pre) atEnd t i l e a =
       omega (
@@ -224,7 +181,7 @@ module _ (rs : List Region) where
         ap length (l .0),
         records-few h lo (c .1 .key) (c .0) (i .1) (l .1) (a .0),
         hole-kids h (suc (c .1 .key)) hi pre atEnd t (i .2) (l .2) (e .1) (a .1),
-        between-three rs lo (c .1 .key) hi (i .0 .0) (i .0 .1),
+        inner-three rs lo (c .1 .key) hi (i .0 .0) (i .0 .1),
       )
 
   hole-records : (d m lo hi : ℕ) (c : Ctx d m) (t : Tree m) → In (up d m) lo hi (plug d m c t) → Local (up d m) rs lo hi (plug d m c t) → AllKeys Even (up d m) (plug d m c t)

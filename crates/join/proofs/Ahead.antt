@@ -12,6 +12,7 @@ use Rattle.words.specs.Lists.{filter, All}
 use Rattle.words.proofs.Tests.{by-test}
 use Rattle.words.proofs.Listed.{all-mono, all-every, all-let, all-map, all-kept, pairs-kept, filter-yes, filter-no, filter-all, filter-none, filter-same, filter-within, none-of, filter-flat}
 use Rattle.words.proofs.Says.{Says, says-same, says-iff, le-says}
+use Rattle.words.proofs.Counted.{filter-short}
 use Rattle.regions.specs.Positions.{account, holds}
 use Rattle.regions.specs.Sets.{Set, of, startsBehind}
 use Rattle.regions.specs.Calls.{Pair, pairsWith, pairOf, pairsOf, joined}
@@ -27,7 +28,6 @@ use Rattle.regions.proofs.Local.{holds-account}
 use Rattle.regions.proofs.Joined.{pairs-hold, later-says}
 use Rattle.xrtree.proofs.Extra.{skip}
 use Rattle.search.proofs.Tasks.{pairs-not}
-use Rattle.search.proofs.Tallies.{filter-short}
 use Rattle.join.specs.Joins.{lowest, firstPosition, startsFrom, Clear}
 
 -- FROM A POSITION ON

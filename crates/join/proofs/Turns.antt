@@ -9,6 +9,7 @@ use lib.ListN.{length, length-append, length-map}
 use native.Mathlib.Omega.{arith}
 use Rattle.words.specs.Lists.{filter}
 use Rattle.words.proofs.Tests.{by-test, nlt-of}
+use Rattle.words.proofs.Counted.{filter-short}
 use Rattle.regions.specs.Positions.{holds}
 use Rattle.regions.specs.Sets.{of}
 use Rattle.regions.specs.Calls.{Pair, room, written, ancestors, pairsWith, pairOf, pairsOf, joined, pairWords}
@@ -30,7 +31,6 @@ use Rattle.leaves.specs.declared.Step.the-variants.{Next, End}
 use Rattle.leaves.specs.Cursors.{left, stepFrom}
 use Rattle.search.specs.declared.Tally.{Tally}
 use Rattle.search.specs.Tallies.{freshTally, Small}
-use Rattle.search.proofs.Tallies.{filter-short}
 use Rattle.inward.specs.Faces.{Faces}
 use Rattle.inward.proofs.Faces.{never, Onward, faces-on, faces-end, faces-long}
 use Rattle.join.specs.Joins.{lowest, firstPosition, startsFrom, ownStep, Moved, Turned, Joined, JoinedAll}

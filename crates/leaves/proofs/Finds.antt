@@ -2,7 +2,7 @@
 -- Assumes nothing.
 use Prim.Native.Nat.{ℕ, zero, suc, _+_, _≤_, _<_}
 use mathlib.Core.Path.{_≡_, refl, sym, ap, _∙_, subst}
-use mathlib.Core.Bool.{Bool, true, false, not, cond}
+use mathlib.Core.Bool.{Bool, not, cond}
 use mathlib.Core.List.{List, [], _∷_, _++_, map, flatMap}
 use lib.Dec.{T, leb, ltb, eqb, le→leb, leb→le, nleb→lt}
 use lib.ListN.{length, drop, length-append}
@@ -11,7 +11,7 @@ use Rattle.words.specs.Lists.{filter, takeWhile, dropWhile, all, allPairs, coun
 use Rattle.words.proofs.Tests.{by-test, and-left, and-right, eq-of, ne-of, le-yes, le-no, T-off}
 use Rattle.words.proofs.Listed.{all-mono, all-right, pairs-mono, rests, filter-both, flat-append, map-append}
 use Rattle.words.proofs.Says.{Says, and-says, eq-says, lt-says, le-says, all-says, pairs-say}
-use Rattle.words.proofs.Counted.{sum-le, sum-count, sum-at-most}
+use Rattle.words.proofs.Counted.{sum-le, sum-count, sum-at-most, one-at-most}
 use Rattle.regions.specs.Sets.{startsBehind}
 use Rattle.regions.specs.declared.Region.{Region}
 use Rattle.xrtree.specs.Tree.{Entry, Leaf, regionOf, regions, leaves, listItems, pagePlaces}
@@ -37,14 +37,10 @@ unfolding onceOrFree
 once-few used zero ps t i a b = absurd (omega arith)
 once-few used (suc n) ps t i a b =
     by-test (eqb i (suc n))
-    (λ e. rw (eq-of i (suc n) e, eq-says (count (suc n) ps) (cond (used (suc n)) 1 0) .yes-so (and-left (eqb (count (suc n) ps) (cond (used (suc n)) 1 0)) _ t)) (most (used (suc n))))
+    (λ e. rw (eq-of i (suc n) e, eq-says (count (suc n) ps) (cond (used (suc n)) 1 0) .yes-so (and-left (eqb (count (suc n) ps) (cond (used (suc n)) 1 0)) _ t)) (one-at-most (used (suc n))))
     (λ e.
     let ne : (i ≡ suc n → ⊥) = ne-of i (suc n) e in
     once-few used n ps (and-right (eqb (count (suc n) ps) (cond (used (suc n)) 1 0)) _ t) i a (omega arith))
-  where
-    most : (b : Bool) → cond b 1 0 ≤ 1
-    most true = omega arith
-    most false = omega arith
 
 placed-facts : (used : ℕ → Bool) (n : ℕ) (ps : List ℕ) → T (placed used n ps) → All (λ q. (1 ≤ q) × (q ≤ n)) ps × (length ps ≤ n)
 unfolding placed

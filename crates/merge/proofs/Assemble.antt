@@ -4,13 +4,13 @@ use Prim.Native.Nat.{ℕ, suc, _+_, _≤_, _<_}
 use mathlib.Core.Path.{_≡_, refl, sym, ap, _∙_, subst}
 use mathlib.Core.Logic.{_≢_}
 use mathlib.Core.Bool.{false, cond, not}
-use mathlib.Core.List.{List, [], _∷_, _++_, append-assoc}
+use mathlib.Core.List.{List, [], _∷_, _++_}
 use lib.Dec.{T, eqb}
 use lib.ListN.{length, length-append}
 use native.Mathlib.Omega.{arith}
 use native.Mathlib.Decide.{ℕ-discrete}
 use Rattle.words.specs.Lists.{All, Pairs, count}
-use Rattle.words.proofs.Counted.{one, count-append, count-same, count-other}
+use Rattle.words.proofs.Counted.{one, count-nil, count-append, count-one, count-not}
 use Rattle.regions.specs.declared.Region.{Region}
 use Rattle.xrtree.specs.Tree.{Key, Leaf, Inner, Tree, listRegions, listLeaves, listPages, listRecords, regions, leaves, pagePlaces, recordPlaces}
 use Rattle.xrtree.specs.Rules.{linked}
@@ -23,12 +23,13 @@ use Rattle.store.proofs.Kept.{page-used-same, record-used-same}
 use Rattle.holding.specs.Held.{placeOf, PageHeld, Held}
 use Rattle.holding.proofs.Frames.{SamePage, SameRecord}
 use Rattle.standing.specs.Stands.{top, Roomy, Stands}
-use Rattle.standing.proofs.Counting.{all-counted}
+use Rattle.standing.proofs.Counting.{all-counted, place-once, counted-used}
 use Rattle.records.specs.Touched.{Touched, Uses}
-use Rattle.steps.specs.Steps.{size, KidsFilled, rekeyed, moved, PairAt, Merged}
-use Rattle.merge.specs.Moves.{nextPlaces}
-use Rattle.merge.proofs.Listed.{joined-listed, pair-listed, regions-keyless, leaves-keyless, pages-keyless, restRecords, joined-records, pair-records}
-use Rattle.merge.proofs.Stays.{every-joined, held-joined, HeldAs, pagesBelow, recordsBelow, ownRecords, pages-root, records-parts, words-stay, held-stored, places-less, place-once, counted-used}
+use Rattle.steps.specs.Steps.{size, KidsFilled, rekeyed, moved, PairAt, Merged, nextPlaces}
+use Rattle.steps.proofs.Listed.{pair-listed, after-rekeyed, around-child, regions-keyless, leaves-keyless, pages-keyless, restRecords, pair-records}
+use Rattle.steps.proofs.Stays.{HeldAs, pagesBelow, recordsBelow, ownRecords, page-counts, pair-counts, page-number, pair-number, records-parts, words-stay, held-stored}
+use Rattle.merge.proofs.Listed.{joined-listed, joined-records}
+use Rattle.merge.proofs.Stays.{every-joined, held-joined, places-less}
 
 -- the two pages before, the one afterwards
 abbrev pub pageThen : {w : List ℕ} {h q j : ℕ} → PairAt w h q j → Inner (Tree h)
@@ -74,22 +75,6 @@ pub record Made (w w₂ : List ℕ) (h q j : ℕ) (s : PairAt w h q j) (lws pws 
   pub size-joined : size h joined ≡ size h (s .left) + moved h + size h (s .right)
   pub kids-filled : KidsFilled h (s .left) → KidsFilled h (s .right) → KidsFilled h joined
 
-count-nil : (x : ℕ) → count x [] ≡ 0
-unfolding count
-count-nil x = refl
-
-count-cons : (x y : ℕ) (ys : List ℕ) → count x (y ∷ ys) ≡ count x (y ∷ []) + count x ys
-unfolding count
-count-cons x y ys = omega arith
-
-count-one : (x y : ℕ) → x ≡ y → count x (y ∷ []) ≡ 1
-unfolding count
-count-one x y e = rw e (count-same y [])
-
-count-not : (x y : ℕ) → x ≢ y → count x (y ∷ []) ≡ 0
-unfolding count
-count-not x y n = count-other x y [] n
-
 used-mark : (w w′ : List ℕ) (x : ℕ) → markOf (pageOf w′ x) ≡ markOf (pageOf w x) → pageUsed w′ x ≡ pageUsed w x
 unfolding pageUsed
 used-mark w w′ x e = ap (λ m. not (eqb m 0)) e
@@ -99,25 +84,7 @@ module _ {w : List ℕ} {h q j : ℕ} (s : PairAt w h q j) where
   pub pair-pages : (x : ℕ) → count x (pagePlaces (suc h) (pageThen s) ++ s .o .pages)
       ≡ count x (q ∷ []) + count x (beforeKids listPages h (s .pre)) + count x (placeOf h (s .left) ∷ []) + count x (pagesBelow h (s .left)) + count x (placeOf h (s .right) ∷ []) + count x (pagesBelow h (s .right))
       + count x (afterKids listPages h (s .post)) + count x (s .o .pages)
-  pair-pages x =
-      let b = beforeKids listPages h (s .pre) in
-      let d = afterKids listPages h (s .post) in
-      let l = pagePlaces h (s .left) in
-      let u = pagePlaces h (s .right) in
-      let e : pagePlaces (suc h) (pageThen s) ≡ q ∷ (b ++ ((l ++ u) ++ d)) = pair-listed listPages pages-keyless h q (s .pre) (s .post) (s .left) (s .right) (s .key) in
-      omega (
-        arith,
-        count-append x (pagePlaces (suc h) (pageThen s)) (s .o .pages),
-        ap (count x) e,
-        count-cons x q (b ++ ((l ++ u) ++ d)),
-        count-append x b ((l ++ u) ++ d),
-        count-append x (l ++ u) d,
-        count-append x l u,
-        ap (count x) (pages-root h (s .left)),
-        ap (count x) (pages-root h (s .right)),
-        count-cons x (placeOf h (s .left)) (pagesBelow h (s .left)),
-        count-cons x (placeOf h (s .right)) (pagesBelow h (s .right)),
-      )
+  pair-pages x = omega (arith, count-append x (pagePlaces (suc h) (pageThen s)) (s .o .pages), pair-counts h q (s .pre) (s .post) x (s .left) (s .right) (s .key))
 
   pub pair-listing : (x : ℕ) → count x (recordPlaces (suc h) (pageThen s) ++ s .o .records)
       ≡ count x (beforeKids listRecords h (s .pre)) + count x (ownRecords h (s .left)) + count x (recordsBelow h (s .left)) + count x (s .key .places) + count x (ownRecords h (s .right)) + count x (recordsBelow h (s .right))
@@ -171,20 +138,12 @@ module _ {w w₂ w₅ : List ℕ} {h q j : ℕ} {s : PairAt w h q j} {lws pws : 
   -- PAGES
   new-pages : (x : ℕ) → count x (pagePlaces (suc h) (pageNow s (m .joined) (m .key′)) ++ s .o .pages) + count x (r ∷ []) ≡ count x (pagePlaces (suc h) (pageThen s) ++ s .o .pages)
   new-pages x =
-      let b = beforeKids listPages h (s .pre) in
-      let d = afterKids listPages h (s .post) in
-      let l = pagePlaces h (m .joined) in
-      let e : pagePlaces (suc h) (pageNow s (m .joined) (m .key′)) ≡ q ∷ (b ++ (l ++ d)) = joined-listed listPages pages-keyless h q (s .pre) (s .post) (m .joined) (m .key′) in
       omega (
         arith,
         pair-pages s x,
         count-append x (pagePlaces (suc h) (pageNow s (m .joined) (m .key′))) (s .o .pages),
-        ap (count x) e,
-        count-cons x q (b ++ (l ++ d)),
-        count-append x b (l ++ d),
-        count-append x l d,
-        ap (count x) (pages-root h (m .joined)),
-        count-cons x (placeOf h (m .joined)) (pagesBelow h (m .joined)),
+        page-counts h q (s .pre) (rekeyed (s .post) (m .key′)) x (m .joined),
+        ap (count x) (after-rekeyed listPages pages-keyless h (s .post) (m .key′)),
         ap (λ z. count x (z ∷ [])) (m .joined-place),
         count-append x (pagesBelow h (s .left)) (pagesBelow h (s .right)),
         ap (count x) (m .below-pages),
@@ -274,36 +233,20 @@ module _ {w w₂ w₅ : List ℕ} {h q j : ℕ} {s : PairAt w h q j} {lws pws : 
       let b = beforeKids listLeaves h (s .pre) in
       let d = afterKids listLeaves h (s .post) in
       subst (λ l. T (linked l))
-      (leaves-in (s .o .before) b (leaves h (m .joined)) d (s .o .after)
+      (around-child (s .o .before) b (leaves h (m .joined)) d (s .o .after)
       ∙ ap (λ l. s .o .before ++ (l ++ s .o .after)) (sym (joined-listed listLeaves leaves-keyless h q (s .pre) (s .post) (m .joined) (m .key′))))
       (m .same-links (s .o .before ++ b) (d ++ s .o .after)
       (subst (λ l. T (linked l))
       (ap (λ l. s .o .before ++ (l ++ s .o .after)) (pair-listed listLeaves leaves-keyless h q (s .pre) (s .post) (s .left) (s .right) (s .key))
-      ∙ sym (leaves-in (s .o .before) b (leaves h (s .left) ++ leaves h (s .right)) d (s .o .after))) (st .links)))
-    where
-      leaves-in : (x b t d y : List Leaf) → (x ++ b) ++ (t ++ (d ++ y)) ≡ x ++ ((b ++ (t ++ d)) ++ y)
-      leaves-in x b t d y = simp append-assoc
+      ∙ sym (around-child (s .o .before) b (leaves h (s .left) ++ leaves h (s .right)) d (s .o .after))) (st .links)))
 
   one-less : suc (length (pagePlaces (suc h) (pageNow s (m .joined) (m .key′)))) ≡ length (pagePlaces (suc h) (pageThen s))
   one-less =
-      let b = beforeKids listPages h (s .pre) in
-      let d = afterKids listPages h (s .post) in
-      let l = pagePlaces h (s .left) in
-      let u = pagePlaces h (s .right) in
-      let e : pagePlaces (suc h) (pageThen s) ≡ q ∷ (b ++ ((l ++ u) ++ d)) = pair-listed listPages pages-keyless h q (s .pre) (s .post) (s .left) (s .right) (s .key) in
-      let f : pagePlaces (suc h) (pageNow s (m .joined) (m .key′)) ≡ q ∷ (b ++ (pagePlaces h (m .joined) ++ d)) = joined-listed listPages pages-keyless h q (s .pre) (s .post) (m .joined) (m .key′) in
       omega (
         arith,
-        ap length e,
-        ap length f,
-        length-append b ((l ++ u) ++ d),
-        length-append (l ++ u) d,
-        length-append l u,
-        length-append b (pagePlaces h (m .joined) ++ d),
-        length-append (pagePlaces h (m .joined)) d,
-        ap length (pages-root h (s .left)),
-        ap length (pages-root h (s .right)),
-        ap length (pages-root h (m .joined)),
+        pair-number h q (s .pre) (s .post) (s .left) (s .right) (s .key),
+        page-number h q (s .pre) (rekeyed (s .post) (m .key′)) (m .joined),
+        ap length (after-rekeyed listPages pages-keyless h (s .post) (m .key′)),
         length-append (pagesBelow h (s .left)) (pagesBelow h (s .right)),
         ap length (m .below-pages),
       )

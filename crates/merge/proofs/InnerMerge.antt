@@ -21,6 +21,7 @@ use Rattle.pages.specs.Layout.{pageOf, fillOf, markOf, nextOf}
 use Rattle.holding.specs.Held.{KeysHeld, kidPlaces, EveryKid, placeOf, PageHeld, Held}
 use Rattle.holding.proofs.Frames.{keyRecords}
 use Rattle.standing.specs.Stands.{Roomy}
+use Rattle.standing.proofs.Counting.{place-once}
 use Rattle.pagework.specs.Pages.{keysOf, childrenOf, IsInner}
 use Rattle.records.specs.Touched.{Touched}
 use Rattle.records.proofs.Marks.{touched-in, touched-then, uses-then}
@@ -29,7 +30,7 @@ use Rattle.merge.specs.declared.Handed.{Handed}
 use Rattle.merge.specs.Moves.{nextTook, restList, restPlaces, Leaving, HandedOn, Sinking, Sank, InnersFit}
 use Rattle.merge.proofs.Keys.{keys-join, keys-touched, records-append}
 use Rattle.merge.proofs.Sinking.{count-cut}
-use Rattle.merge.proofs.Stays.{every-pair, place-once}
+use Rattle.merge.proofs.Stays.{every-pair}
 use Rattle.merge.proofs.Assemble.{pageThen, pageNow, Made, pair-listing, three, assemble}
 use Rattle.merge.proofs.Parts.{inner-part}
 use Rattle.store.specs.Store.{putPage, freePage}

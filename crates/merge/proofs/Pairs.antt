@@ -23,20 +23,21 @@ use Rattle.pages.specs.Layout.{pageOf, fillOf, childIn, recordUsed}
 use Rattle.holding.specs.Held.{kidPlaces, placeOf, PageHeld}
 use Rattle.holding.proofs.Frames.{keyRecords}
 use Rattle.standing.specs.Stands.{top}
-use Rattle.standing.proofs.Counting.{all-counted}
+use Rattle.standing.proofs.Counting.{all-counted, place-once, counted-used}
 use Rattle.store.specs.Store.{putPage, freePage}
 use Rattle.store.proofs.Frames.{put-page-long, put-page-here, put-page-other, put-page-record, put-page-head, free-page-long, free-page-other, free-page-record, free-page-head, free-page-used}
 use Rattle.pagework.specs.Pages.{takenOut, keysOf}
 use Rattle.pagework.proofs.Read.{child-in}
 use Rattle.records.specs.Touched.{Touched, Uses, AllUsed, Ends}
-use Rattle.steps.specs.Steps.{rekeyed, PairAt}
+use Rattle.steps.specs.Steps.{rekeyed, PairAt, nextPlaces}
+use Rattle.steps.proofs.Listed.{pair-listed, regions-keyless}
+use Rattle.steps.proofs.Stays.{records-parts}
 use Rattle.merge.specs.declared.Handed.{Handed}
-use Rattle.merge.specs.Moves.{nextPlaces, nextTook, restPlaces, Leaving, HandedOn}
+use Rattle.merge.specs.Moves.{nextTook, restPlaces, Leaving, HandedOn}
 use Rattle.merge.proofs.Keys.{kids-more, keys-touched, records-append}
 use Rattle.merge.proofs.Sinking.{count-cut}
-use Rattle.merge.proofs.Listed.{joined-listed, pair-listed, regions-keyless}
+use Rattle.merge.proofs.Listed.{joined-listed}
 use Rattle.merge.proofs.Parts.{part-among}
-use Rattle.merge.proofs.Stays.{records-parts, place-once, counted-used}
 use Rattle.merge.proofs.Assemble.{pageThen, pageNow, three, Stored, pair-listing}
 
 -- THE STORES of a merge

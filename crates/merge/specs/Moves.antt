@@ -22,11 +22,6 @@ use Rattle.steps.specs.Steps.{size, rekeyed, PairAt}
 use Rattle.merge.specs.declared.Handed.{Handed}
 
 module _ {A : Type 0} where
-  -- the places of the next key's records
-  abbrev pub nextPlaces : Post A → List ℕ
-  nextPlaces (atKey j cs last) = j .places
-  nextPlaces atEnd = []
-
   -- the key k leaves the page: the next key, with what it takes of k's list
   abbrev pub nextTook : Post A → Key → Key
   nextTook (atKey j cs last) k = keyWith (j .key) (movedPlaces (j .key) (k .list) (k .places) ++ j .places) (takeWhile (stabs (j .key)) (k .list) ++ j .list)

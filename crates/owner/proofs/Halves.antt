@@ -11,7 +11,7 @@ use native.Mathlib.Omega.{arith}
 use native.Mathlib.Decide.{ℕ-discrete}
 use Rattle.words.specs.Lists.{count, takeWhile, dropWhile}
 use Rattle.words.proofs.Listed.{while-join}
-use Rattle.words.proofs.Counted.{count-append, count-same, count-other}
+use Rattle.words.proofs.Counted.{count-append, count-same, count-other, one-at-most}
 use Rattle.regions.specs.declared.Region.{Region}
 use Rattle.xrtree.specs.Tree.{Entry, Key, Leaf, recordPlaces}
 use Rattle.xrtree.proofs.Claims.{pageAt}
@@ -223,11 +223,7 @@ module _ (w : List ℕ) (x : Spot) (r : Region) (a : OwnerReady w x r) (n : x .f
 
 -- 1 for a record in use, at most
 used-one : (w : List ℕ) (y : ℕ) → inUse w y ≤ 1
-used-one w y = go (recordUsed w y)
-  where
-    go : (b : Bool) → cond b 1 0 ≤ 1
-    go true = omega arith
-    go false = omega arith
+used-one w y = one-at-most (recordUsed w y)
 
 -- the places of a list's two parts
 parts-count : (s : ℕ) (k : Key) (y : ℕ) → count y (frontPlaces s k) + count y (backPlaces s k) ≡ count y (k .places)

@@ -18,7 +18,7 @@ use Rattle.holding.specs.Held.{placeOf, LeafHeld, Held}
 use Rattle.holding.proofs.Frames.{SamePage, SameRecord}
 use Rattle.standing.specs.Stands.{Places, Roomy}
 use Rattle.standing.proofs.Counting.{places-same}
-use Rattle.standing.proofs.Whole.{at-most-once}
+use Rattle.standing.proofs.Counting.{place-once}
 use Rattle.store.specs.Store.{putPage}
 use Rattle.store.proofs.Frames.{put-page-long, put-page-here, put-page-other, put-page-record, put-page-head, put-page-record-used}
 use Rattle.owner.specs.Ways.{Below, leafOn, atLeaf, renew}
@@ -114,7 +114,7 @@ module _ (g : List Entry → List Entry) (x h : ℕ) (t : Tree h) where
     at-held =
         let v = way-of x h t in
         let r = leaf-range (a .pages) in
-        let u = at-most-once (pageUsed w) 160 (pagePlaces h t) (a .pages) p in
+        let u = place-once (a .pages) p in
         subst (Held w′ h) (sym (v .becomes (renew g)))
         (held-within w w′ (v .around) (leafOn x h t)
         (off (ahead listPages (v .around)) (omega (arith, leaf-counts p, count-same p []))) (off (behind listPages (v .around)) (omega (arith, leaf-counts p, count-same p [])))

@@ -15,7 +15,7 @@ use Rattle.words.proofs.Counted.{count-append, count-same}
 use Rattle.xrtree.specs.Tree.{Key, Tree, Listing, weave, listed, listPages, listRecords, listLeaves, pagePlaces, recordPlaces}
 use Rattle.xrtree.specs.Rules.{linked}
 use Rattle.xrtree.proofs.Claims.{pageAt}
-use Rattle.pages.specs.Layout.{pageOf, markOf, fillOf, nextOf, pageUsed, recordUsed}
+use Rattle.pages.specs.Layout.{pageOf, markOf, fillOf, nextOf, recordUsed}
 use Rattle.pages.specs.declared.KeyWords.{KeyWords}
 use Rattle.image.specs.Decode.{keyWordsAt}
 use Rattle.pagework.specs.Pages.{putFor, keysOf, childrenOf, IsInner}
@@ -23,7 +23,7 @@ use Rattle.holding.specs.Held.{KeyHeld, KeysHeld, placeOf, EveryKid, PageHeld, 
 use Rattle.holding.proofs.Frames.{SamePage, SameRecord, keyRecords, key-frame}
 use Rattle.standing.specs.Stands.{Places, Roomy}
 use Rattle.standing.proofs.Counting.{all-counted, places-same}
-use Rattle.standing.proofs.Whole.{at-most-once}
+use Rattle.standing.proofs.Counting.{place-once}
 use Rattle.store.specs.Store.{putPage}
 use Rattle.store.proofs.Kept.{page-used-same}
 use Rattle.store.proofs.Frames.{put-page-long, put-page-here, put-page-other, put-page-record, put-page-head, put-page-record-used}
@@ -110,10 +110,10 @@ module _ {m h : ℕ} (c : Below (suc m) h) (q : ℕ) (pre : List (Tree m × Key)
       long-one = touched .long ∙ a .long
 
       once-page : (y : ℕ) → count y (pagePlaces h (tree key)) ≤ 1
-      once-page y = at-most-once (pageUsed w) 160 (pagePlaces h (tree key)) (a .pages) y
+      once-page y = place-once (a .pages) y
 
       once-record : (y : ℕ) → count y (recordPlaces h (tree key)) ≤ 1
-      once-record y = at-most-once (recordUsed w) 500 (recordPlaces h (tree key)) (a .records) y
+      once-record y = place-once (a .records) y
 
       -- a page of the tree that is not the owner's, a record that is not of the owner's list
       other-page : (y : ℕ) → 0 < count y (pagePlaces h (tree key)) → q ≢ y → SamePage w w₂ y

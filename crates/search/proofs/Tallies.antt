@@ -2,13 +2,13 @@
 -- Assumes nothing.
 use Prim.Native.Nat.{ℕ, _+_, _≤_}
 use mathlib.Core.Path.{_≡_, refl, sym, ap, _∙_, subst}
-use mathlib.Core.Bool.{Bool, true, false}
+use mathlib.Core.Bool.{true, false}
 use mathlib.Core.List.{List, [], _∷_, _++_}
 use lib.ListN.{length, length-append}
 use native.Mathlib.Omega.{arith}
 use Rattle.words.specs.Lists.{filter}
-use Rattle.words.proofs.Tests.{by-test}
 use Rattle.words.proofs.Listed.{filter-no, filter-append}
+use Rattle.words.proofs.Counted.{filter-short}
 use Rattle.regions.specs.declared.Region.{Region}
 use Rattle.answers.specs.Items.{writtenFrom}
 use Rattle.answers.proofs.Items.{from-none, from-long, from-append}
@@ -30,12 +30,6 @@ pub last-append : (f : Found) (xs ys : List Region) → lastFound f (xs ++ ys) �
 unfolding lastFound
 last-append f [] ys = refl
 last-append f (x ∷ xs) ys = last-append (At x) xs ys
-
--- no more are taken than were met
-pub filter-short : {A : Type 0} (p : A → Bool) (xs : List A) → length (filter p xs) ≤ length xs
-unfolding filter
-filter-short p [] = omega arith
-filter-short p (x ∷ xs) = let n = filter-short p xs in by-test (p x) (λ h. rw h (omega arith)) (λ h. rw h (omega arith))
 
 -- one region met and not taken, one taken
 abbrev pub passed : Tally → Tally

@@ -7,21 +7,12 @@ use Rattle.words.specs.Lists.{All}
 use Rattle.words.proofs.Listed.{all-left, all-right}
 use Rattle.xrtree.specs.Tree.{listPages}
 use Rattle.pages.specs.Layout.{pageOf, fillOf, childIn}
+use Rattle.image.specs.Fills.{FillsFrom}
 use Rattle.image.proofs.Listings.{listedAt, listedFrom, from-last, from-more, listed-leaf, listed-inner}
-use Rattle.shape.specs.Fills.{Fills, FillsFrom}
 use Rattle.shape.proofs.Filling.{Kids, kids-one, kids-more, all-of-kids}
 
 module _ (w : List ℕ) where
   -- the fills
-  pub fills-here : (l p : ℕ) → Fills l w p → fillOf (pageOf w p) ≤ 8
-  fills-here zero p f = f
-  fills-here (suc h) p f = f .0
-
-  pub fills-child : (h l p i y : ℕ) → l ≡ suc h → i ≤ fillOf (pageOf w p) → y ≡ childIn (pageOf w p) i → Fills l w p → Fills h w y
-  fills-child h l p i y e k c f =
-      let g : Fills (suc h) w p = rw e at f in
-      rw c (g .1 i k)
-
   pub from-here : (least l p : ℕ) → FillsFrom least l w p → (least ≤ fillOf (pageOf w p)) × (fillOf (pageOf w p) ≤ 8)
   from-here least zero p f = f
   from-here least (suc h) p f = (f .0, f .1)

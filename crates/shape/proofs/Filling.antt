@@ -4,7 +4,7 @@ use Prim.Native.Nat.{ℕ, zero, suc, _+_, _-_, _≤_}
 use mathlib.Core.Path.{_≡_, refl, sym, ap, ap₂, _∙_}
 use mathlib.Core.Bool.{Bool, true, _&&_}
 use mathlib.Core.List.{List, [], _∷_, _++_}
-use lib.Dec.{T, leb, eqb, leb→le, le→leb}
+use lib.Dec.{T, leb, eqb, le→leb}
 use lib.ListN.{length, getD, length-append}
 use native.Mathlib.Omega.{arith}
 use Rattle.words.specs.Lists.{all, All}
@@ -15,8 +15,9 @@ use Rattle.xrtree.specs.Tree.Item.{key}
 use Rattle.xrtree.specs.Rules.{within, filledBelow, filled}
 use Rattle.pages.specs.Layout.{pageOf, fillOf, keyWord, childIn, pageUsed}
 use Rattle.image.specs.Read.{kidsFrom, readTree}
+use Rattle.image.specs.Fills.{FillsFrom, rootLeast}
+use Rattle.image.proofs.Fills.{within-facts}
 use Rattle.image.proofs.Listings.{entries-long, kids-long, listedAt, listedFrom, from-last, from-more, listed-leaf, listed-inner}
-use Rattle.shape.specs.Fills.{Fills, FillsFrom, rootLeast}
 use Rattle.shape.specs.Run.{pageRight, startEvents, leafEvents, innerEvents, eventsAt}
 use Rattle.shape.specs.Run.Event.{item}
 use Rattle.shape.proofs.Turns.{inner-suc, inner-zero, events-leaf, events-inner}
@@ -26,21 +27,18 @@ use Rattle.shape.proofs.Flat.{each, each-append, tests}
 abbrev pub Held : List ℕ → ℕ → Type 0
 Held w p = (1 ≤ p) × (p ≤ 160) × (pageUsed w p ≡ true)
 
-within-so : (a b n : ℕ) → T (within a b n) → (a ≤ n) × (n ≤ b)
-within-so a b n h = (leb→le a n (and-left (leb a n) _ h), leb→le n b (and-right (leb a n) _ h))
-
 so-within : (a b n : ℕ) → a ≤ n → n ≤ b → T (within a b n)
 so-within a b n h k = and-both (leb a n) _ (le→leb a n h) (le→leb n b k)
 
 right-held : (w : List ℕ) (least p : ℕ) → T (pageRight w least p) → Held w p
 unfolding pageRight
 right-held w least p h =
-    let a = within-so 1 160 p (and-left (within 1 160 p) _ h) in
+    let a = within-facts 1 160 p (and-left (within 1 160 p) _ h) in
     (a .0, a .1, of-T _ (and-left (pageUsed w p) _ (and-right (within 1 160 p) _ h)))
 
 right-fill : (w : List ℕ) (least p : ℕ) → T (pageRight w least p) → (least ≤ fillOf (pageOf w p)) × (fillOf (pageOf w p) ≤ 8)
 unfolding pageRight
-right-fill w least p h = within-so least 8 (fillOf (pageOf w p)) (and-right (pageUsed w p) _ (and-right (within 1 160 p) _ h))
+right-fill w least p h = within-facts least 8 (fillOf (pageOf w p)) (and-right (pageUsed w p) _ (and-right (within 1 160 p) _ h))
 
 so-right : (w : List ℕ) (least p : ℕ) → Held w p → least ≤ fillOf (pageOf w p) → fillOf (pageOf w p) ≤ 8 → T (pageRight w least p)
 unfolding pageRight
@@ -173,15 +171,6 @@ module _ (w : List ℕ) where
 
 -- THE TREE'S OWN TEST
 module _ {A : Type 0} (q : A → Bool) (child : ℕ → A) (w ws : List ℕ) where
-  kids-tested : (i m k : ℕ) → k ≡ i + m → T (allKids q (kidsFrom child w ws i m) (child (childIn ws k))) → Kids (λ c. T (q (child c))) ws i m
-  unfolding allKids kidsFrom
-  kids-tested i zero k e t =
-      let z : k ≡ i = omega arith in
-      kids-one (λ c. T (q (child c))) ws i (rw z at t)
-  kids-tested i (suc m) k e t =
-      kids-more (λ c. T (q (child c))) ws i m (and-left (q (child (childIn ws i))) _ t)
-      (kids-tested (suc i) m k (omega arith) (and-right (q (child (childIn ws i))) _ t))
-
   tested-kids : (i m k : ℕ) → k ≡ i + m → Kids (λ c. T (q (child c))) ws i m → T (allKids q (kidsFrom child w ws i m) (child (childIn ws k)))
   unfolding allKids kidsFrom
   tested-kids i zero k e t =
@@ -218,37 +207,16 @@ module _ (w : List ℕ) where
       ap (λ (n : ℕ). within 1 8 n && allKids (filledBelow h) (kidsFrom (readTree h w) w (pageOf w p) 0 (fillOf (pageOf w p))) (readTree h w (childIn (pageOf w p) (fillOf (pageOf w p)))))
       (kids-long (readTree h w) w (pageOf w p) 0 (fillOf (pageOf w p)))
 
-  inner-so : (least h p : ℕ) → ((c : ℕ) → T (filledBelow h (readTree h w c)) → FillsFrom 4 h w c) → T (innerFilled least h p) → FillsFrom least (suc h) w p
-  inner-so least h p f t =
-      let a = within-so least 8 (fillOf (pageOf w p)) (and-left (within least 8 (fillOf (pageOf w p))) _ t) in
-      let k = kids-tested (filledBelow h) (readTree h w) w (pageOf w p) 0 (fillOf (pageOf w p)) (fillOf (pageOf w p)) (omega arith) (and-right (within least 8 (fillOf (pageOf w p))) _ t) in
-      (a .0, a .1, λ i l. f (childIn (pageOf w p) i) (k i (omega arith) (omega arith)))
-
   so-inner : (least h p : ℕ) → ((c : ℕ) → FillsFrom 4 h w c → T (filledBelow h (readTree h w c))) → FillsFrom least (suc h) w p → T (innerFilled least h p)
   so-inner least h p f t =
       and-both (within least 8 (fillOf (pageOf w p))) _ (so-within least 8 (fillOf (pageOf w p)) (t .0) (t .1))
       (tested-kids (filledBelow h) (readTree h w) w (pageOf w p) 0 (fillOf (pageOf w p)) (fillOf (pageOf w p)) (omega arith)
       (λ j a b. f (childIn (pageOf w p) j) (t .2 j (omega arith))))
 
-  below-so : (h p : ℕ) → T (filledBelow h (readTree h w p)) → FillsFrom 4 h w p
-  below-so zero p t = within-so 4 8 (fillOf (pageOf w p)) (rw below-leaf at t)
-  below-so (suc h) p t = inner-so 4 h p (below-so h) (rw below-inner at t)
-
   so-below : (h p : ℕ) → FillsFrom 4 h w p → T (filledBelow h (readTree h w p))
   so-below zero p f = rw below-leaf (so-within 4 8 (fillOf (pageOf w p)) (f .0) (f .1))
   so-below (suc h) p f = rw below-inner (so-inner 4 h p (so-below h) f)
 
-  pub filled-so : (h p : ℕ) → T (filled h (readTree h w p)) → FillsFrom (rootLeast h) h w p
-  unfolding rootLeast
-  filled-so zero p t = within-so 0 8 (fillOf (pageOf w p)) (rw root-leaf at t)
-  filled-so (suc h) p t = inner-so 1 h p (below-so h) (rw root-inner at t)
-
   pub so-filled : (h p : ℕ) → FillsFrom (rootLeast h) h w p → T (filled h (readTree h w p))
-  unfolding rootLeast
   so-filled zero p f = rw root-leaf (so-within 0 8 (fillOf (pageOf w p)) (f .0) (f .1))
   so-filled (suc h) p f = rw root-inner (so-inner 1 h p (so-below h) f)
-
-  -- at most 8 on every page
-  pub fills-some : (least h p : ℕ) → FillsFrom least h w p → Fills h w p
-  fills-some least zero p f = f .1
-  fills-some least (suc h) p f = (f .1, λ i l. fills-some 4 h (childIn (pageOf w p) i) (f .2 i l))

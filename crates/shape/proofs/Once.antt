@@ -17,8 +17,8 @@ use Rattle.xrtree.specs.Tree.{Entry, Item, listItems, listPages}
 use Rattle.xrtree.specs.Tree.Item.{start, key}
 use Rattle.pages.specs.Layout.{pageOf, fillOf, keyWord, childIn}
 use Rattle.image.specs.Read.{entriesFrom}
+use Rattle.image.specs.Fills.{FillsFrom, rootLeast}
 use Rattle.image.proofs.Listings.{listedAt, listedFrom, from-last, from-more, listed-leaf, listed-inner}
-use Rattle.shape.specs.Fills.{FillsFrom, rootLeast}
 use Rattle.shape.specs.Run.{code}
 use Rattle.shape.proofs.Filling.{Kids, kids-first, kids-rest, kids-all}
 use Rattle.shape.proofs.Order.{Ascends}
@@ -178,6 +178,5 @@ single q = omega (arith, none-counted q)
 
 -- no page stands in the tree twice
 pub tree-once : (w : List ℕ) (h p : ℕ) → FillsFrom (rootLeast h) h w p → Ascends 0 (listedAt listItems w h p) → (q : ℕ) → count q (listedAt listPages w h p) ≤ 1
-unfolding rootLeast
 tree-once w zero p f a q = rw (listed-leaf listPages) (once-more q p [] (none-counted p) (single q))
 tree-once w (suc h) p f a q = picked-once (ownOf w) _ _ (root-picked w h p f) a q

@@ -13,8 +13,8 @@ use Rattle.xrtree.specs.Tree.Item.{start, key}
 use Rattle.xrtree.specs.Rules.{separates}
 use Rattle.pages.specs.Layout.{pageOf, fillOf, keyWord, childIn}
 use Rattle.image.specs.Read.{entriesFrom}
+use Rattle.image.specs.Fills.{FillsFrom}
 use Rattle.image.proofs.Listings.{listedAt, listedFrom, from-last, from-more, listed-leaf, listed-inner}
-use Rattle.shape.specs.Fills.{FillsFrom}
 use Rattle.shape.specs.Run.{code}
 use Rattle.shape.proofs.Flat.{each, ascends}
 use Rattle.shape.proofs.Follow.{startIn}

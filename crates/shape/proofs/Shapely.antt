@@ -1,6 +1,6 @@
 -- What an image of the right shape has, one law for each thing: for the passes and searches that come behind this test.
 -- Assumes nothing.
-use Prim.Native.Nat.{ℕ, _-_, _<_, _≤_}
+use Prim.Native.Nat.{ℕ, _<_, _≤_}
 use mathlib.Core.Path.{_≡_}
 use mathlib.Core.Bool.{_&&_}
 use mathlib.Core.List.{List}
@@ -18,8 +18,6 @@ use Rattle.pages.specs.Layout.{rootOf, heightOf, pageUsed}
 use Rattle.image.specs.Read.{depthOf, treeOf}
 use Rattle.image.specs.Valid.{sized}
 use Rattle.image.specs.Shape.{shapely}
-use Rattle.shape.specs.Fills.{Fills, FillsFrom, rootLeast}
-use Rattle.shape.proofs.Filling.{fills-some}
 use Rattle.shape.proofs.Order.{Ascends, Separates}
 use Rattle.shape.proofs.Once.{tree-once}
 use Rattle.shape.proofs.Whole.{Declared, declared-so, order-ascends}
@@ -97,14 +95,3 @@ module _ (w : List ℕ) (t : T (shapely w)) where
 
   pub shapely-used : (q : ℕ) → 1 ≤ q → q ≤ 160 → count q (pagePlaces (depthOf w) (treeOf w)) ≡ one (pageUsed w q)
   shapely-used = shapely-declared .once
-
-  -- the fills on the way down: 4 to 8 below the root
-  pub shapely-fills-from : FillsFrom (rootLeast (depthOf w)) (depthOf w) w (rootOf w)
-  shapely-fills-from = shapely-declared .fills
-
-  pub shapely-fills : Fills (depthOf w) w (rootOf w)
-  shapely-fills = fills-some w (rootLeast (depthOf w)) (depthOf w) (rootOf w) shapely-fills-from
-
-  -- the same of a height and a root that were read
-  pub shapely-start : (h p : ℕ) → h ≡ heightOf w → p ≡ rootOf w → Fills (h - 1) w p
-  shapely-start h p a b = rw (a, b) shapely-fills

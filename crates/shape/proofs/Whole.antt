@@ -18,13 +18,14 @@ use Rattle.pages.specs.Layout.{pageOf, fillOf, heightOf, rootOf, pageUsed}
 use Rattle.image.specs.Read.{entriesFrom, readTree}
 use Rattle.image.specs.Valid.{sized}
 use Rattle.image.specs.Shape.{shapely}
+use Rattle.image.specs.Fills.{FillsFrom, rootLeast}
+use Rattle.image.proofs.Fills.{filled-fills}
 use Rattle.image.proofs.Listings.{listedAt, listed-leaf}
-use Rattle.shape.specs.Fills.{FillsFrom, rootLeast}
 use Rattle.shape.specs.Run.{Event, run, finished, eventsAt, usedTo}
 use Rattle.shape.specs.declared.Passed.{Passed}
 use Rattle.shape.proofs.Flat.{each, tests, points, links, ascends, chained, going, decides}
 use Rattle.shape.proofs.Follow.{points-of, links-of, links-linked, startIn, starts-same, starts-pairs}
-use Rattle.shape.proofs.Filling.{Held, tests-fills, fills-tests, tests-length, filled-so, so-filled}
+use Rattle.shape.proofs.Filling.{Held, tests-fills, fills-tests, tests-length, so-filled}
 use Rattle.shape.proofs.Order.{Ascends, ascends-says, Separates, separates-says, starts-say, ascends-separate, ascends-starts, woven-ascends, leaf-woven, tree-woven}
 use Rattle.shape.proofs.Once.{tree-once}
 use Rattle.shape.proofs.Places.{InRange, Once, InUse, placed-says, places-once, once-used, once-length, used-sum}
@@ -39,7 +40,6 @@ leaf-ascends ws (suc m) p q = woven-ascends (leaf-woven ws 0 (suc m) (omega arit
 module _ (w : List ℕ) where
   pub order-ascends : (h p : ℕ) → FillsFrom (rootLeast h) h w p → Pairs Separates (listedAt listItems w h p) → Pairs (λ s t. s < t) (each startIn (listedAt listItems w h p))
       → Ascends 0 (listedAt listItems w h p)
-  unfolding rootLeast
   order-ascends zero p f s t = rw listed-leaf (leaf-ascends (pageOf w p) (fillOf (pageOf w p)) (rw listed-leaf at s) (rw listed-leaf at t))
   order-ascends (suc h) p f s t = woven-ascends (tree-woven w (suc h) 1 p (omega arith) f) s t
 
@@ -71,7 +71,7 @@ module _ (w : List ℕ) where
       let st = and-right (linked (leaves h (tree h p))) _ r1b in
       let r7 = placed-says (pageUsed w) 160 (pagePlaces h (tree h p)) .yes-so (and-right (allPairs separates (items h (tree h p))) _ r27) in
       record {
-        fills = filled-so w h p (and-left (filled h (tree h p)) _ r1);
+        fills = filled-fills h w p (and-left (filled h (tree h p)) _ r1);
         links = and-left (linked (leaves h (tree h p))) _ r1b;
         starts = starts-say (each startIn (items h (tree h p))) .yes-so (rw (starts-pairs, starts-same) at st);
         separation = pairs-say separates-says (items h (tree h p)) .yes-so (and-left (allPairs separates (items h (tree h p))) _ r27);
@@ -155,9 +155,7 @@ ended w h least root left e r l a b eh er em ek ee ef =
     rw (ee, ek, em, er, eh, sized-yes w l (omega arith) (omega arith)) (whole w (heightOf w - 1) (rootOf w))
 
 pub least-first : (h : ℕ) → h ≡ 1 → 0 ≡ rootLeast (h - 1)
-unfolding rootLeast
 least-first h e = rw e
 
 pub least-other : (h : ℕ) → 1 ≤ h → (h ≡ 1 → ⊥) → 1 ≡ rootLeast (h - 1)
-unfolding rootLeast
 least-other h l e = let q : h - 1 ≡ suc (h - 2) = omega arith in rw q

@@ -3,31 +3,33 @@
 use Prim.Native.Nat.{ℕ, zero, suc, _+_, _≤_, _<_}
 use mathlib.Core.Path.{_≡_, refl, sym, ap, _∙_, subst}
 use mathlib.Core.Logic.{_≢_}
-use mathlib.Core.Bool.{Bool, true, false, cond, not}
-use mathlib.Core.List.{List, [], _∷_, _++_, append-assoc}
-use lib.Dec.{T, eqb}
+use mathlib.Core.Bool.{true, false, cond, not}
+use mathlib.Core.List.{List, [], _∷_, _++_}
+use lib.Dec.{T}
 use lib.ListN.{length, length-append}
 use native.Mathlib.Omega.{arith}
 use native.Mathlib.Decide.{ℕ-discrete}
 use Rattle.words.specs.Lists.{All, Pairs, count}
 use Rattle.words.proofs.Tests.{eq-no}
-use Rattle.words.proofs.Counted.{count-append, count-same, count-other}
+use Rattle.words.proofs.Counted.{one, one-at-most, count-append, count-one, count-not}
 use Rattle.regions.specs.declared.Region.{Region}
 use Rattle.xrtree.specs.Tree.{Key, Leaf, Inner, Tree, listRegions, listLeaves, listPages, listRecords, regions, leaves, pagePlaces, recordPlaces}
 use Rattle.xrtree.specs.Rules.{linked}
 use Rattle.xrtree.proofs.Claims.{Over, Fits}
 use Rattle.xrtree.proofs.Here.{Here}
 use Rattle.xrtree.proofs.Whole.{Part, fill, beforeKids, afterKids}
-use Rattle.pages.specs.Layout.{rootOf, heightOf, sharesOf, pageOf, markOf, recordOf, pageUsed, recordUsed, recordEnd}
+use Rattle.pages.specs.Layout.{rootOf, heightOf, sharesOf, pageOf, markOf, recordOf, pageUsed, recordUsed}
+use Rattle.store.proofs.Kept.{page-used-same, record-used-same}
 use Rattle.holding.specs.Held.{placeOf, PageHeld, Held}
 use Rattle.holding.proofs.Frames.{SamePage, SameRecord}
 use Rattle.standing.specs.Stands.{top, Roomy, Stands}
-use Rattle.standing.proofs.Counting.{all-counted}
-use Rattle.steps.specs.Steps.{size, KidsFilled, rekeyed, moved, ChildAt, pageHere, Split}
-use Rattle.split.specs.Sides.{nextPlaces}
+use Rattle.standing.proofs.Counting.{all-counted, place-once, free-uncounted, counted-used}
+use Rattle.steps.specs.Steps.{size, KidsFilled, rekeyed, moved, ChildAt, pageHere, Split, nextPlaces}
+use Rattle.steps.proofs.Listed.{page-listed, after-rekeyed, around-child, regions-keyless, leaves-keyless, pages-keyless, restRecords, page-records}
+use Rattle.steps.proofs.Stays.{HeldAs, pagesBelow, recordsBelow, ownRecords, page-counts, pair-counts, page-number, pair-number, records-parts, words-stay, held-stored}
 use Rattle.split.specs.Stored.{Stored}
-use Rattle.split.proofs.Listed.{page-listed, split-listed, regions-keyless, leaves-keyless, pages-keyless, restRecords, page-records, split-records}
-use Rattle.split.proofs.Stays.{every-more, held-more, HeldAs, pagesBelow, recordsBelow, ownRecords, pages-root, records-parts, words-stay, held-stored, places-more, place-once, free-uncounted, counted-used}
+use Rattle.split.proofs.Listed.{split-listed, split-records}
+use Rattle.split.proofs.Stays.{every-more, held-more, places-more}
 
 abbrev pub pageNow : {w : List ℕ} {h q i : ℕ} → ChildAt w h q i → Tree h → Key → Key → Tree h → Inner (Tree h)
 pageNow {q = q} s left key key′ right = fill q (s .pre ++ (left, key) ∷ []) (rekeyed (s .post) key′) right
@@ -78,37 +80,6 @@ used-of : (w : List ℕ) (x : ℕ) → markOf (pageOf w x) ≢ 0 → pageUsed w 
 unfolding pageUsed
 used-of w x n = ap not (eq-no (markOf (pageOf w x)) 0 n)
 
-used-same : (w w′ : List ℕ) (x : ℕ) → pageOf w′ x ≡ pageOf w x → pageUsed w′ x ≡ pageUsed w x
-unfolding pageUsed
-used-same w w′ x e = ap (λ ws. not (eqb (markOf ws) 0)) e
-
-record-used-same : (w w′ : List ℕ) (x : ℕ) → recordOf w′ x ≡ recordOf w x → recordUsed w′ x ≡ recordUsed w x
-unfolding recordUsed
-record-used-same w w′ x e = ap (λ ws. not (eqb (recordEnd ws) 0)) e
-
-abbrev one : Bool → ℕ
-one b = cond b 1 0
-
-at-most-one : (b : Bool) → cond b 1 0 ≤ 1
-at-most-one true = omega arith
-at-most-one false = omega arith
-
-count-nil : (x : ℕ) → count x [] ≡ 0
-unfolding count
-count-nil x = refl
-
-count-cons : (x y : ℕ) (ys : List ℕ) → count x (y ∷ ys) ≡ count x (y ∷ []) + count x ys
-unfolding count
-count-cons x y ys = omega arith
-
-count-one : (x y : ℕ) → x ≡ y → count x (y ∷ []) ≡ 1
-unfolding count
-count-one x y e = rw e (count-same y [])
-
-count-not : (x y : ℕ) → x ≢ y → count x (y ∷ []) ≡ 0
-unfolding count
-count-not x y n = count-other x y [] n
-
 module _ {w w₂ w₅ : List ℕ} {h q i c : ℕ} {s : ChildAt w h q i} {r : ℕ} {lws rws pws : List ℕ}
     (m : Made w w₂ h q i c s r lws rws pws) (t : Stored w₂ w₅ (placeOf h (s .child)) lws r rws q pws) (r-low : 1 ≤ r) (r-high : r ≤ 160) (r-free : pageUsed w r ≡ false) where
   abbrev p : ℕ
@@ -120,42 +91,17 @@ module _ {w w₂ w₅ : List ℕ} {h q i c : ℕ} {s : ChildAt w h q i} {r : ℕ
   -- PAGES by counts
   old-pages : (x : ℕ) → count x (pagePlaces (suc h) (pageHere s) ++ s .o .pages)
       ≡ count x (q ∷ []) + count x (beforeKids listPages h (s .pre)) + count x (p ∷ []) + count x (pagesBelow h (s .child)) + count x (afterKids listPages h (s .post)) + count x (s .o .pages)
-  old-pages x =
-      let b = beforeKids listPages h (s .pre) in
-      let d = afterKids listPages h (s .post) in
-      let e : pagePlaces (suc h) (pageHere s) ≡ q ∷ (b ++ (pagePlaces h (s .child) ++ d)) = page-listed listPages pages-keyless h q (s .pre) (s .post) (s .child) in
-      omega (
-        arith,
-        count-append x (pagePlaces (suc h) (pageHere s)) (s .o .pages),
-        ap (count x) e,
-        count-cons x q (b ++ (pagePlaces h (s .child) ++ d)),
-        count-append x b (pagePlaces h (s .child) ++ d),
-        count-append x (pagePlaces h (s .child)) d,
-        ap (count x) (pages-root h (s .child)),
-        count-cons x p (pagesBelow h (s .child)),
-      )
+  old-pages x = omega (arith, count-append x (pagePlaces (suc h) (pageHere s)) (s .o .pages), page-counts h q (s .pre) (s .post) x (s .child))
 
   new-pages : (x : ℕ) → count x (pagePlaces (suc h) (pageNow s (m .left) (m .key) (m .key′) (m .right)) ++ s .o .pages)
       ≡ count x (r ∷ []) + count x (pagePlaces (suc h) (pageHere s) ++ s .o .pages)
   new-pages x =
-      let b = beforeKids listPages h (s .pre) in
-      let d = afterKids listPages h (s .post) in
-      let l = pagePlaces h (m .left) in
-      let u = pagePlaces h (m .right) in
-      let e : pagePlaces (suc h) (pageNow s (m .left) (m .key) (m .key′) (m .right)) ≡ q ∷ (b ++ ((l ++ u) ++ d)) = split-listed listPages pages-keyless h q (s .pre) (s .post) (m .left) (m .right) (m .key) (m .key′) in
       omega (
         arith,
         old-pages x,
         count-append x (pagePlaces (suc h) (pageNow s (m .left) (m .key) (m .key′) (m .right))) (s .o .pages),
-        ap (count x) e,
-        count-cons x q (b ++ ((l ++ u) ++ d)),
-        count-append x b ((l ++ u) ++ d),
-        count-append x (l ++ u) d,
-        count-append x l u,
-        ap (count x) (pages-root h (m .left)),
-        ap (count x) (pages-root h (m .right)),
-        count-cons x (placeOf h (m .left)) (pagesBelow h (m .left)),
-        count-cons x (placeOf h (m .right)) (pagesBelow h (m .right)),
+        pair-counts h q (s .pre) (rekeyed (s .post) (m .key′)) x (m .left) (m .right) (m .key),
+        ap (count x) (after-rekeyed listPages pages-keyless h (s .post) (m .key′)),
         ap (λ z. count x (z ∷ [])) (m .left-place),
         ap (λ z. count x (z ∷ [])) (m .right-place),
         count-append x (pagesBelow h (m .left)) (pagesBelow h (m .right)),
@@ -196,7 +142,7 @@ module _ {w w₂ w₅ : List ℕ} {h q i c : ℕ} {s : ChildAt w h q i} {r : ℕ
             | yes e ↦ rw e (used-of w₅ p (λ z. m .left-mark (sym (ap markOf (t .left-is)) ∙ z)) ∙ sym (counted-used (st .pages) p (omega (arith, old-pages p, count-one p p refl))))
             | no k ↦ elim (ℕ-discrete x q) [
               | yes e ↦ rw e (used-of w₅ q (λ z. m .above-mark (sym (ap markOf (t .above-is)) ∙ z)) ∙ sym (counted-used (st .pages) q (omega (arith, old-pages q, count-one q q refl))))
-              | no l ↦ used-same w w₅ x (t .pages x k n l ∙ m .pages x b)
+              | no l ↦ page-used-same w w₅ x (t .pages x k n l ∙ m .pages x b)
             ]
           ]
 
@@ -234,7 +180,7 @@ module _ {w w₂ w₅ : List ℕ} {h q i c : ℕ} {s : ChildAt w h q i} {r : ℕ
       by : (n : ℕ) → count x (m .touched) ≡ n → count x (m .touched) ≡ 0
       by zero z = z
       by (suc n) z =
-          absurd (omega (arith, e, m .own x (omega arith), place-once (st .records) x, st .records .once x (range .0) (range .1), m .uses x (range .0) (range .1), at-most-one (recordUsed w₂ x)))
+          absurd (omega (arith, e, m .own x (omega arith), place-once (st .records) x, st .records .once x (range .0) (range .1), m .uses x (range .0) (range .1), one-at-most (recordUsed w₂ x)))
 
   record-uses : (x : ℕ) → 1 ≤ x → x ≤ 500 → cond (recordUsed w₅ x) 1 0 ≡ cond (recordUsed w x) 1 0 + count x (m .fresh)
   record-uses x a b = ap (λ b. cond b 1 0) (record-used-same w₂ w₅ x (t .records x)) ∙ m .uses x a b
@@ -280,36 +226,20 @@ module _ {w w₂ w₅ : List ℕ} {h q i c : ℕ} {s : ChildAt w h q i} {r : ℕ
       let b = beforeKids listLeaves h (s .pre) in
       let d = afterKids listLeaves h (s .post) in
       subst (λ l. T (linked l))
-      (leaves-in (s .o .before) b (leaves h (m .left) ++ leaves h (m .right)) d (s .o .after)
+      (around-child (s .o .before) b (leaves h (m .left) ++ leaves h (m .right)) d (s .o .after)
       ∙ ap (λ l. s .o .before ++ (l ++ s .o .after)) (sym (split-listed listLeaves leaves-keyless h q (s .pre) (s .post) (m .left) (m .right) (m .key) (m .key′))))
       (m .same-links (s .o .before ++ b) (d ++ s .o .after)
       (subst (λ l. T (linked l))
       (ap (λ l. s .o .before ++ (l ++ s .o .after)) (page-listed listLeaves leaves-keyless h q (s .pre) (s .post) (s .child))
-      ∙ sym (leaves-in (s .o .before) b (leaves h (s .child)) d (s .o .after))) (st .links)))
-    where
-      leaves-in : (x b t d y : List Leaf) → (x ++ b) ++ (t ++ (d ++ y)) ≡ x ++ ((b ++ (t ++ d)) ++ y)
-      leaves-in x b t d y = simp append-assoc
+      ∙ sym (around-child (s .o .before) b (leaves h (s .child)) d (s .o .after))) (st .links)))
 
   one-more : length (pagePlaces (suc h) (pageNow s (m .left) (m .key) (m .key′) (m .right))) ≡ suc (length (pagePlaces (suc h) (pageHere s)))
   one-more =
-      let b = beforeKids listPages h (s .pre) in
-      let d = afterKids listPages h (s .post) in
-      let l = pagePlaces h (m .left) in
-      let u = pagePlaces h (m .right) in
-      let e : pagePlaces (suc h) (pageNow s (m .left) (m .key) (m .key′) (m .right)) ≡ q ∷ (b ++ ((l ++ u) ++ d)) = split-listed listPages pages-keyless h q (s .pre) (s .post) (m .left) (m .right) (m .key) (m .key′) in
-      let f : pagePlaces (suc h) (pageHere s) ≡ q ∷ (b ++ (pagePlaces h (s .child) ++ d)) = page-listed listPages pages-keyless h q (s .pre) (s .post) (s .child) in
       omega (
         arith,
-        ap length e,
-        ap length f,
-        length-append b ((l ++ u) ++ d),
-        length-append (l ++ u) d,
-        length-append l u,
-        length-append b (pagePlaces h (s .child) ++ d),
-        length-append (pagePlaces h (s .child)) d,
-        ap length (pages-root h (m .left)),
-        ap length (pages-root h (m .right)),
-        ap length (pages-root h (s .child)),
+        pair-number h q (s .pre) (rekeyed (s .post) (m .key′)) (m .left) (m .right) (m .key),
+        page-number h q (s .pre) (s .post) (s .child),
+        ap length (after-rekeyed listPages pages-keyless h (s .post) (m .key′)),
         length-append (pagesBelow h (m .left)) (pagesBelow h (m .right)),
         ap length (m .below-pages),
       )

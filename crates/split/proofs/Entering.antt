@@ -22,8 +22,8 @@ use Rattle.records.specs.Touched.{Touched, Uses, Ends}
 use Rattle.records.specs.Kept.{Lifts, Apart}
 use Rattle.records.specs.declared.Lifted.{Lifted}
 use Rattle.records.proofs.Marks.{touched-none, uses-same, held-ends}
-use Rattle.steps.specs.Steps.{rekeyed}
-use Rattle.split.specs.Sides.{nextPlaces, topped, nextCut}
+use Rattle.steps.specs.Steps.{rekeyed, nextPlaces}
+use Rattle.split.specs.Sides.{topped, nextCut}
 use Rattle.split.specs.Moves.{EnterReady, Entered}
 use Rattle.split.proofs.Keys.{records-count, keys-at, keys-split, keys-more, keys-last, places-one-more, untouched}
 

@@ -75,10 +75,6 @@ uses-sum {w} {w′} {ps} u a =
     ∙ sum-add (inUse w) (λ i. count i ps) 500
     ∙ ap (λ n. usedRecords w + n) (sum-count ps 500 a)
 
-at-most-one : (b : Bool) → cond b 1 0 ≤ 1
-at-most-one true = omega arith
-at-most-one false = omega arith
-
 pub room-of : (w : List ℕ) → usedRecords w < 500 → Room w
 room-of w h =
     let z = pigeon (inUse w) 500 h in

@@ -21,16 +21,16 @@ use Rattle.pages.specs.declared.KeyWords.{KeyWords}
 use Rattle.holding.specs.Held.{KeyHeld, KeysHeld, kidPlaces, EveryKid, placeOf, PageHeld, Held}
 use Rattle.holding.proofs.Frames.{keyRecords, keys-frame}
 use Rattle.standing.specs.Stands.{Roomy}
-use Rattle.steps.specs.Steps.{KidsFilled}
+use Rattle.steps.specs.Steps.{KidsFilled, nextPlaces}
+use Rattle.steps.proofs.Stays.{HeldAs}
 use Rattle.pagework.specs.Pages.{keysOf, childrenOf, IsInner}
 use Rattle.records.specs.Touched.{Touched}
 use Rattle.records.proofs.Marks.{none-in, touched-then}
-use Rattle.split.specs.Sides.{nextPlaces, topped, nextCut}
+use Rattle.split.specs.Sides.{topped, nextCut}
 use Rattle.split.specs.Moves.{RaiseReady, Raised, EnterReady, Entered}
 use Rattle.split.specs.Ready.{InnerReady}
 use Rattle.split.specs.declared.Risen.{Risen}
 use Rattle.split.proofs.Parts.{inner-part}
-use Rattle.split.proofs.Stays.{HeldAs}
 use Rattle.split.proofs.Assemble.{Made}
 use Rattle.split.proofs.Keys.{records-count, keys-split, untouched, trim-counts}
 use Rattle.split.proofs.Seen.{child-stands, q-mark, p-mark, records-once, enter-ready, long-more, topped-counts}

@@ -28,12 +28,12 @@ use Rattle.image.specs.Read.{entryAt, entriesFrom}
 use Rattle.holding.specs.Held.{KeyHeld, LeafHeld}
 use Rattle.standing.specs.Stands.{top}
 use Rattle.standing.proofs.Counting.{counted-all}
-use Rattle.steps.specs.Steps.{rekeyed}
+use Rattle.steps.specs.Steps.{rekeyed, nextPlaces}
 use Rattle.pagework.specs.Pages.{entriesOf, sparesOf, IsLeaf}
 use Rattle.pagework.proofs.Read.{entries-up, entry-in}
 use Rattle.pagework.proofs.Items.{up-take}
 use Rattle.records.proofs.Marks.{none-in, touched-then}
-use Rattle.split.specs.Sides.{nextPlaces, topped, nextCut}
+use Rattle.split.specs.Sides.{topped, nextCut}
 use Rattle.split.specs.Moves.{Gathered, GatherReady, Flagged, EnterReady, Entered}
 use Rattle.split.specs.Ready.{unlisted, LeafReady}
 use Rattle.split.proofs.Parts.{leaf-part}

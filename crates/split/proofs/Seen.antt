@@ -3,13 +3,13 @@
 use Prim.Native.Nat.{ℕ, zero, suc, _+_, _≤_, _<_}
 use mathlib.Core.Path.{_≡_, refl, sym, ap, ap₂, _∙_}
 use mathlib.Core.Logic.{_≢_}
-use mathlib.Core.Bool.{Bool, true, false, cond, not, true≢false}
+use mathlib.Core.Bool.{true, false, not, true≢false}
 use mathlib.Core.List.{List, [], _∷_, _++_}
 use lib.ListN.{length, length-append, getD, take}
 use native.Mathlib.Omega.{arith}
 use Rattle.words.specs.Lists.{count, takeWhile}
 use Rattle.words.proofs.Tests.{eq-yes}
-use Rattle.words.proofs.Counted.{count-append, count-same, sum-same, sum-count}
+use Rattle.words.proofs.Counted.{count-append, count-same, sum-same, sum-count, one-at-most}
 use Rattle.regions.specs.Positions.{stabs}
 use Rattle.regions.specs.declared.Region.{Region}
 use Rattle.xrtree.specs.Tree.{Key, weave, listed, listPages, listRecords, pagePlaces, recordPlaces}
@@ -21,19 +21,19 @@ use Rattle.pages.specs.declared.KeyWords.{KeyWords}
 use Rattle.holding.specs.Held.{KeyHeld, kidPlaces, placeOf}
 use Rattle.holding.proofs.Frames.{keyRecords, keys-frame}
 use Rattle.standing.specs.Stands.{Stands}
-use Rattle.standing.proofs.Counting.{all-counted}
+use Rattle.standing.proofs.Counting.{all-counted, place-once, counted-used}
 use Rattle.standing.proofs.Child.{aroundHole, stands-hole}
-use Rattle.steps.specs.Steps.{rekeyed, ChildAt, pageHere}
+use Rattle.steps.specs.Steps.{rekeyed, ChildAt, pageHere, nextPlaces}
+use Rattle.steps.proofs.Listed.{page-listed, pages-keyless}
+use Rattle.steps.proofs.Stays.{pages-root, pagesBelow, ownRecords, records-parts}
 use Rattle.store.specs.Store.{FirstFree}
 use Rattle.store.proofs.Places.{Fair, first-free}
 use Rattle.pagework.specs.Pages.{keysOf}
 use Rattle.pagework.proofs.Read.{child-in}
 use Rattle.records.specs.Touched.{Touched, inUse, Uses}
 use Rattle.records.proofs.Marks.{none-in}
-use Rattle.split.specs.Sides.{nextPlaces, toppedPlaces, nextCut}
+use Rattle.split.specs.Sides.{toppedPlaces, nextCut}
 use Rattle.split.specs.Moves.{usedRecords, EnterReady}
-use Rattle.split.proofs.Listed.{page-listed, pages-keyless}
-use Rattle.split.proofs.Stays.{pages-root, pagesBelow, ownRecords, records-parts, place-once, counted-used}
 use Rattle.split.proofs.Keys.{untouched, count-two}
 
 -- child number i of the children
@@ -67,10 +67,6 @@ topped-counts x k atEnd ps = refl
 mark-of : (w : List ℕ) (x : ℕ) → pageUsed w x ≡ true → markOf (pageOf w x) ≢ 0
 unfolding pageUsed
 mark-of w x u z = true≢false (sym u ∙ ap not (eq-yes (markOf (pageOf w x)) 0 z))
-
-at-most-one : (b : Bool) → cond b 1 0 ≤ 1
-at-most-one true = omega arith
-at-most-one false = omega arith
 
 module _ {w : List ℕ} {h q i : ℕ} (s : ChildAt w h q i) where
   abbrev st : Stands w (s .rs) (suc h) (s .lo) (s .hi) (pageHere s) (s .o)
@@ -165,7 +161,7 @@ module _ {w : List ℕ} {h q i : ℕ} (s : ChildAt w h q i) where
       by zero z = omega (arith, records-once x)
       by (suc n) z =
           let r = range x (omega arith) in
-          omega (arith, u .counts x (r .0) (r .1), none-in x, at-most-one (recordUsed w₁ x), st .records .once x (r .0) (r .1), count-append x (recordPlaces (suc h) (pageHere s)) (s .o .records), records-parts x (suc h) (pageHere s))
+          omega (arith, u .counts x (r .0) (r .1), none-in x, one-at-most (recordUsed w₁ x), st .records .once x (r .0) (r .1), count-append x (recordPlaces (suc h) (pageHere s)) (s .o .records), records-parts x (suc h) (pageHere s))
 
   -- THE PAGE ABOVE, with a key to come in, after a change of records that are not its keys' own
   unfoldable pub enter-ready : {w₁ : List ℕ} {ts : List ℕ} (new : KeyWords) (k : ℕ) (places : List ℕ) (list : List Region) → Touched w w₁ ts → KeyHeld w₁ new (keyWith k places list)

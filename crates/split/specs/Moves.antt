@@ -22,8 +22,8 @@ use Rattle.holding.specs.Held.{KeyHeld, KeysHeld, placeOf, PageHeld}
 use Rattle.holding.proofs.Frames.{keyRecords}
 use Rattle.pagework.specs.Pages.{entriesOf, sparesOf, keysOf, childrenOf, IsLeaf, IsInner}
 use Rattle.records.specs.Touched.{Touched, inUse, Uses}
-use Rattle.steps.specs.Steps.{rekeyed}
-use Rattle.split.specs.Sides.{nextPlaces, topped, nextCut}
+use Rattle.steps.specs.Steps.{rekeyed, nextPlaces}
+use Rattle.split.specs.Sides.{topped, nextCut}
 use Rattle.split.specs.declared.Risen.{Risen}
 
 -- how many records are in use

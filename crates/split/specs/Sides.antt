@@ -11,11 +11,6 @@ use Rattle.xrtree.proofs.Whole.{Post}
 use Rattle.xrtree.proofs.Whole.Post.{atKey, atEnd}
 
 module _ {A : Type 0} where
-  -- the places of the next key's records; the records behind them
-  abbrev pub nextPlaces : Post A → List ℕ
-  nextPlaces (atKey j cs last) = j .places
-  nextPlaces atEnd = []
-
   -- the new key k, whose own list is l at the places ps
   abbrev pub toppedList : ℕ → Post A → List Region → List Region
   toppedList k (atKey j cs last) l = takeWhile (stabs k) (j .list) ++ l

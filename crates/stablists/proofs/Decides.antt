@@ -27,10 +27,12 @@ use Rattle.image.specs.Read.{readTree, depthOf, treeOf, setOf}
 use Rattle.image.specs.Valid.{sized}
 use Rattle.image.specs.Shape.{shapely, listsRight}
 use Rattle.stablists.specs.declared.Trail.{Trail}
+use Rattle.image.specs.Fills.{rootLeast}
+use Rattle.image.proofs.Fills.{shapely-fills}
 use Rattle.stablists.specs.Pass.{Fills, going, passAt, usedTo}
 use Rattle.stablists.proofs.Counts.{outcome, testAt, sizeAt, pass-counts}
 use Rattle.stablists.proofs.Chains.{Place}
-use Rattle.stablists.proofs.Reading.{fills-root}
+use Rattle.stablists.proofs.Reading.{fills-most}
 use Rattle.stablists.proofs.Tested.{Tested, KeyRight, Right, root-filled, tree-tested}
 use Rattle.stablists.proofs.Claimed.{claim-two, claim-mono, Placed, claim-places, ListRead, lists-read}
 use Rattle.stablists.proofs.Once.{Holds, at-most, used-few, placed-of, of-placed}
@@ -193,6 +195,4 @@ height-some w s =
     le-says 1 (heightOf w) .yes-so (and-left (leb 1 (heightOf w)) _ z)
 
 pub image-fills : (w : List ℕ) (d p : ℕ) → T (shapely w) → d ≡ depthOf w → p ≡ rootOf w → Fills d w p
-unfolding shapely rule1
-image-fills w d p s ed ep =
-    rw (ed, ep) (fills-root w (depthOf w) (rootOf w) (and-left (filled (depthOf w) (treeOf w)) _ (and-left (rule1 (depthOf w) (treeOf w)) _ (and-right (sized w) _ s))))
+image-fills w d p s ed ep = rw (ed, ep) (fills-most w (rootLeast (depthOf w)) (depthOf w) (rootOf w) (shapely-fills w s))

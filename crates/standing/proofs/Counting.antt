@@ -10,7 +10,7 @@ use native.Mathlib.Omega.{arith}
 use native.Mathlib.Decide.{ℕ-discrete}
 use Rattle.words.specs.Lists.{All, all, count}
 use Rattle.words.proofs.Tests.{T-of, by-test, and-left, and-right, and-both, eq-yes, eq-of, ne-of}
-use Rattle.words.proofs.Counted.{count-append, count-same, count-other, count-none}
+use Rattle.words.proofs.Counted.{count-append, count-same, count-other, count-none, one, one-at-most}
 use Rattle.xrtree.specs.Rules.{within, onceOrFree, placed}
 use Rattle.standing.specs.Stands.{Places}
 
@@ -37,6 +37,22 @@ places-same e f p =
       once = λ q a b. e q ∙ p .once q a b ∙ ap (λ u. cond u 1 0) (sym (f q a b));
       range = λ q h. p .range q (omega (arith, e q));
     }
+
+-- PLACES: one that is listed is listed once and in use, and one that is free is not listed
+module _ {used : ℕ → Bool} {n : ℕ} {ps : List ℕ} (p : Places used n ps) where
+  pub place-once : (x : ℕ) → count x ps ≤ 1
+  place-once x = by (count x ps) refl
+    where
+      by : (m : ℕ) → count x ps ≡ m → count x ps ≤ 1
+      by zero z = omega arith
+      by (suc m) z = let r = p .range x (omega arith) in omega (arith, p .once x (r .0) (r .1), one-at-most (used x))
+
+  pub free-uncounted : (x : ℕ) → 1 ≤ x → x ≤ n → used x ≡ false → count x ps ≡ 0
+  free-uncounted x a b f = p .once x a b ∙ ap one f
+
+  pub counted-used : (x : ℕ) → 0 < count x ps → used x ≡ true
+  counted-used x g =
+      by-test (used x) (λ t. t) (λ f. let r = p .range x g in absurd (omega (arith, free-uncounted x (r .0) (r .1) f)))
 
 -- THE TEST
 once-test : (used : ℕ → Bool) (n : ℕ) (ps : List ℕ) → T (onceOrFree used n ps) → (q : ℕ) → 1 ≤ q → q ≤ n → count q ps ≡ cond (used q) 1 0

@@ -2,12 +2,11 @@
 -- Assumes nothing.
 use Prim.Native.Nat.{ℕ, zero, suc, _+_, _-_, _≤_, _<_}
 use mathlib.Core.Path.{_≡_, refl, sym, ap, ap₂, _∙_, subst}
-use mathlib.Core.Bool.{Bool, true, false, _&&_, cond}
+use mathlib.Core.Bool.{Bool, _&&_}
 use mathlib.Core.List.{List, [], _∷_, _++_, map, append-nil}
 use lib.Dec.{T, leb, leb→le}
 use lib.ListN.{length, getD, length-append}
 use native.Mathlib.Omega.{arith}
-use native.Mathlib.Decide.{decLt}
 use Rattle.words.specs.Lists.{All, Pairs, all, allPairs, count, sum}
 use Rattle.words.proofs.Tests.{T-of, of-T, and-left, and-right, and-both}
 use Rattle.words.proofs.Listed.{all-mono, all-every, all-left, all-right, all-append}
@@ -29,21 +28,14 @@ use Rattle.image.proofs.Facts.{Facts, valid-facts, facts-valid}
 use Rattle.holding.specs.Held.{EveryKid, placeOf, Held}
 use Rattle.holding.proofs.Reading.{Ends, Short, AllKeys, read-held, held-read, place-read}
 use Rattle.standing.specs.Stands.{top, Around, nothingAround, Places, Roomy, Stands}
-use Rattle.standing.proofs.Counting.{all-counted, placed-places, places-placed, places-same}
+use Rattle.standing.proofs.Counting.{all-counted, placed-places, places-placed, places-same, place-once}
 
 -- LISTS ARE SHORT, since no record stands twice
-pub at-most-once : (used : ℕ → Bool) (n : ℕ) (ps : List ℕ) → Places used n ps → (q : ℕ) → count q ps ≤ 1
-at-most-once used n ps p q = elim (decLt 0 (count q ps)) [ yes h ↦ let r = p .range q h in subst (λ m. m ≤ 1) (sym (p .once q (r .0) (r .1))) (bit (used q)) | no h ↦ omega arith ]
-  where
-    bit : (b : Bool) → cond b 1 0 ≤ 1
-    bit true = omega arith
-    bit false = omega arith
-
 pub few : (used : ℕ → Bool) (ps : List ℕ) → Places used 500 ps → length ps ≤ 500
 few used ps p =
     let r = all-counted (λ q. (1 ≤ q) × (q ≤ 500)) ps (p .range) in
     let a = sum-count ps 500 r in
-    let b : sumTo (λ i. count i ps) 500 ≤ 500 = sum-at-most (λ i. count i ps) 500 (at-most-once used 500 ps p) in
+    let b : sumTo (λ i. count i ps) 500 ≤ 500 = sum-at-most (λ i. count i ps) 500 (place-once p) in
     omega arith
 
 -- every key's own places, of all records of a tree

@@ -29,6 +29,11 @@ abbrev pub rekeyed : {A : Type 0} → Post A → Key → Post A
 rekeyed (atKey k cs last) k′ = atKey k′ cs last
 rekeyed atEnd k′ = atEnd
 
+-- the places of the records of the key that follows a child
+abbrev pub nextPlaces : {A : Type 0} → Post A → List ℕ
+nextPlaces (atKey k cs last) = k .places
+nextPlaces atEnd = []
+
 -- a key goes up where an inner page is split, and comes down where two are merged
 abbrev pub moved : ℕ → ℕ
 moved zero = 0

@@ -11,7 +11,7 @@ use native.Mathlib.Omega.{arith}
 use native.Mathlib.Decide.{ℕ-discrete}
 use Rattle.words.specs.Lists.{all, All, count}
 use Rattle.words.proofs.Tests.{T-of, and-left, and-right, and-both, by-test, eq-yes}
-use Rattle.words.proofs.Counted.{one, count-same, count-other, count-more, sum-count, pigeon}
+use Rattle.words.proofs.Counted.{one, count-same, count-other, count-more, sum-count, pigeon, one-at-most}
 use Rattle.xrtree.specs.Rules.{within, onceOrFree, placed}
 use Rattle.store.specs.Store.{FirstFree}
 
@@ -131,12 +131,8 @@ module _ {used : ℕ → Bool} {n : ℕ} {ps : List ℕ} (fair : Fair used n ps)
       inside : (x : ℕ) → 0 < count x qs → (1 ≤ x) × (x ≤ n)
       inside x p = counted-has (λ q. (1 ≤ q) × (q ≤ n)) x ps (fair .range) (omega (arith, c x, count-more x q qs))
 
-      at-most : (b : Bool) → one b ≤ 1
-      at-most true = omega arith
-      at-most false = omega arith
-
       gone : 1 ≤ q → q ≤ n → count q qs ≡ one (used′ q)
-      gone a b = let o : one (used′ q) ≡ 0 = ap one is in omega (arith, c q, count-same q qs, fair .counts q a b, at-most (used q))
+      gone a b = let o : one (used′ q) ≡ 0 = ap one is in omega (arith, c q, count-same q qs, fair .counts q a b, one-at-most (used q))
 
       counted : (i : ℕ) → 1 ≤ i → i ≤ n → count i qs ≡ one (used′ i)
       counted i a b =

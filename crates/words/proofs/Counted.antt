@@ -6,14 +6,18 @@ use mathlib.Core.Logic.{_≢_}
 use mathlib.Core.Bool.{Bool, true, false, cond}
 use mathlib.Core.List.{List, [], _∷_, _++_}
 use native.Mathlib.Omega.{arith}
-use lib.Dec.{eqb}
+use lib.Dec.{T, eqb}
 use lib.ListN.{length}
-use Rattle.words.specs.Lists.{All, count, sum}
+use Rattle.words.specs.Lists.{All, filter, count}
 use Rattle.words.proofs.Tests.{by-test, eq-yes, eq-no, eq-of, ne-of}
 
 -- 1 where the test holds, else 0
 abbrev pub one : Bool → ℕ
 one b = cond b 1 0
+
+pub one-at-most : (b : Bool) → one b ≤ 1
+one-at-most true = omega arith
+one-at-most false = omega arith
 
 -- f 1 + .. + f n
 unfoldable pub sumTo : (ℕ → ℕ) → ℕ → ℕ
@@ -32,6 +36,23 @@ count-same x ys = rw (eq-yes x x refl)
 pub count-other : (x y : ℕ) (ys : List ℕ) → x ≢ y → count x (y ∷ ys) ≡ count x ys
 unfolding count
 count-other x y ys h = rw (eq-no x y h) (omega arith)
+
+-- a list of none, of one, of one more
+pub count-nil : (x : ℕ) → count x [] ≡ 0
+unfolding count
+count-nil x = refl
+
+pub count-one : (x y : ℕ) → x ≡ y → count x (y ∷ []) ≡ 1
+unfolding count
+count-one x y e = rw e (count-same y [])
+
+pub count-not : (x y : ℕ) → x ≢ y → count x (y ∷ []) ≡ 0
+unfolding count
+count-not x y n = count-other x y [] n
+
+pub count-cons : (x y : ℕ) (ys : List ℕ) → count x (y ∷ ys) ≡ count x (y ∷ []) + count x ys
+unfolding count
+count-cons x y ys = omega arith
 
 -- x does not stand in a list: it is not the first, and not in the rest
 pub count-none : (x y : ℕ) (ys : List ℕ) → count x (y ∷ ys) ≡ 0 → (y ≢ x) × (count x ys ≡ 0)
@@ -116,3 +137,36 @@ pub sum-at-most : (f : ℕ → ℕ) (n : ℕ) → ((i : ℕ) → f i ≤ 1) → 
 unfolding sumTo
 sum-at-most f zero h = zero-le
 sum-at-most f (suc n) h = omega (arith, h (suc n), sum-at-most f n h)
+
+-- of three tests that exclude each other and each imply a fourth, at most one holds, and then the fourth does
+pub one-of-three : (p q r s : Bool) → (T p → T s) → (T q → T s) → (T r → T s) → (T p → T q → ⊥) → (T p → T r → ⊥) → (T q → T r → ⊥) → one p + one q + one r ≤ one s
+one-of-three true true r s a b c d e f = absurd (d tt tt)
+one-of-three true false true s a b c d e f = absurd (e tt tt)
+one-of-three true false false true a b c d e f = omega arith
+one-of-three true false false false a b c d e f = absurd (a tt)
+one-of-three false true true s a b c d e f = absurd (f tt tt)
+one-of-three false true false true a b c d e f = omega arith
+one-of-three false true false false a b c d e f = absurd (b tt)
+one-of-three false false true true a b c d e f = omega arith
+one-of-three false false true false a b c d e f = absurd (c tt)
+one-of-three false false false s a b c d e f = omega arith
+
+-- how many of a list pass a test: element by element
+module _ {A : Type 0} where
+  filter-cons : (p : A → Bool) (x : A) (xs : List A) → length (filter p (x ∷ xs)) ≡ one (p x) + length (filter p xs)
+  unfolding filter
+  filter-cons p x xs = by-test (p x) (λ h. rw h (omega arith)) (λ h. rw h (omega arith))
+
+  pub filter-short : (p : A → Bool) (xs : List A) → length (filter p xs) ≤ length xs
+  unfolding filter
+  filter-short p [] = omega arith
+  filter-short p (x ∷ xs) = omega (arith, filter-cons p x xs, one-at-most (p x), filter-short p xs)
+
+  pub filter-three : (p q r s : A → Bool) → ((x : A) → one (p x) + one (q x) + one (r x) ≤ one (s x)) → (xs : List A)
+      → length (filter p xs) + length (filter q xs) + length (filter r xs) ≤ length (filter s xs)
+  unfolding filter
+  filter-three p q r s f [] = omega arith
+  filter-three p q r s f (x ∷ xs) =
+      let n = filter-three p q r s f xs in
+      let m = f x in
+      omega (arith, filter-cons p x xs, filter-cons q x xs, filter-cons r x xs, filter-cons s x xs)

@@ -2,13 +2,10 @@
 -- Assumes nothing.
 use Prim.Native.Nat.{ℕ, zero, suc, _+_, _-_, _≤_, _<_}
 use mathlib.Core.Path.{_≡_, ap}
-use mathlib.Core.Bool.{Bool, true, false}
 use mathlib.Core.List.{List, [], _∷_}
-use lib.Dec.{T}
 use lib.ListN.{length}
 use native.Mathlib.Omega.{arith}
-use Rattle.words.specs.Lists.{filter}
-use Rattle.words.proofs.Tests.{by-test}
+use Rattle.words.proofs.Counted.{one, one-of-three, filter-short, filter-three}
 use Rattle.regions.specs.declared.Region.{Region}
 use Rattle.xrtree.specs.Tree.{Key, Tree}
 use Rattle.xrtree.proofs.Claims.{InKids, In}
@@ -16,55 +13,24 @@ use Rattle.xrtree.proofs.Box.{boxb, box, home, of-box, to-box}
 use Rattle.xrtree.proofs.Local.{LocalKids, Local}
 use Rattle.xrtree.proofs.Whole.{Sound}
 
-abbrev one : Bool → ℕ
-one true = 1
-one false = 0
-
-len-cons : (P : Region → Bool) (x : Region) (xs : List Region) → length (filter P (x ∷ xs)) ≡ one (P x) + length (filter P xs)
-unfolding filter
-len-cons P x xs = by-test (P x) (λ h. rw h (omega arith)) (λ h. rw h (omega arith))
-
-three : (p q r s : Bool) → (T p → T s) → (T q → T s) → (T r → T s) → (T p → T q → ⊥) → (T p → T r → ⊥) → (T q → T r → ⊥) → one p + one q + one r ≤ one s
-three true true r s a b c d e f = absurd (d tt tt)
-three true false true s a b c d e f = absurd (e tt tt)
-three true false false true a b c d e f = omega arith
-three true false false false a b c d e f = absurd (a tt)
-three false true true s a b c d e f = absurd (f tt tt)
-three false true false true a b c d e f = omega arith
-three false true false false a b c d e f = absurd (b tt)
-three false false true true a b c d e f = omega arith
-three false false true false a b c d e f = absurd (c tt)
-three false false false s a b c d e f = omega arith
-
-fit-three : (P Q R S : Region → Bool) → ((x : Region) → one (P x) + one (Q x) + one (R x) ≤ one (S x)) → (xs : List Region)
-    → length (filter P xs) + length (filter Q xs) + length (filter R xs) ≤ length (filter S xs)
-unfolding filter
-fit-three P Q R S f [] = omega arith
-fit-three P Q R S f (x ∷ xs) =
-    let n = fit-three P Q R S f xs in
-    let m = f x in
-    omega (arith, len-cons P x xs, len-cons Q x xs, len-cons R x xs, len-cons S x xs)
-
-filter-short : (P : Region → Bool) (xs : List Region) → length (filter P xs) ≤ length xs
-unfolding filter
-filter-short P [] = omega arith
-filter-short P (x ∷ xs) = let n = filter-short P xs in by-test (P x) (λ h. rw h (omega arith)) (λ h. rw h (omega arith))
-
--- the regions that lie between the bounds: those of a key, those left of it, those right of it
-unfoldable inner : ℕ → ℕ → List Region → List Region
-inner lo hi rs = box lo hi 0 hi rs
-
-inner-three : (rs : List Region) (lo k hi : ℕ) → lo ≤ k → k < hi → length (home lo k hi rs) + length (inner lo k rs) + length (inner (suc k) hi rs) ≤ length (inner lo hi rs)
-unfolding inner box
-inner-three rs lo k hi l u =
-    fit-three (boxb lo (suc k) k hi) (boxb lo k 0 k) (boxb (suc k) hi 0 hi) (boxb lo hi 0 hi)
-    (λ x. three (boxb lo (suc k) k hi x) (boxb lo k 0 k x) (boxb (suc k) hi 0 hi x) (boxb lo hi 0 hi x)
+-- at home with a key, left of it, right of it
+pub home-three : (lo k hi : ℕ) (x : Region) → lo ≤ k → k < hi → one (boxb lo (suc k) k hi x) + one (boxb lo k 0 k x) + one (boxb (suc k) hi 0 hi x) ≤ one (boxb lo hi 0 hi x)
+home-three lo k hi x l u =
+    one-of-three (boxb lo (suc k) k hi x) (boxb lo k 0 k x) (boxb (suc k) hi 0 hi x) (boxb lo hi 0 hi x)
     (λ a. let i = of-box lo (suc k) k hi x a in to-box lo hi 0 hi x (omega arith))
     (λ b. let i = of-box lo k 0 k x b in to-box lo hi 0 hi x (omega arith))
     (λ c. let i = of-box (suc k) hi 0 hi x c in to-box lo hi 0 hi x (omega arith))
     (λ a b. let i = of-box lo (suc k) k hi x a in let j = of-box lo k 0 k x b in omega arith)
     (λ a c. let i = of-box lo (suc k) k hi x a in let j = of-box (suc k) hi 0 hi x c in omega arith)
-    (λ b c. omega (arith, of-box lo k 0 k x b, of-box (suc k) hi 0 hi x c))) rs
+    (λ b c. omega (arith, of-box lo k 0 k x b, of-box (suc k) hi 0 hi x c))
+
+-- the regions that lie between the bounds: those of a key, those left of it, those right of it
+abbrev inner : ℕ → ℕ → List Region → List Region
+inner lo hi rs = box lo hi 0 hi rs
+
+pub inner-three : (rs : List Region) (lo k hi : ℕ) → lo ≤ k → k < hi → length (home lo k hi rs) + length (inner lo k rs) + length (inner (suc k) hi rs) ≤ length (inner lo hi rs)
+unfolding box
+inner-three rs lo k hi l u = filter-three (boxb lo (suc k) k hi) (boxb lo k 0 k) (boxb (suc k) hi 0 hi) (boxb lo hi 0 hi) (λ x. home-three lo k hi x l u) rs
 
 module _ {A : Type 0} (f : A → ℕ) where
   unfoldable pub totalKids : List (A × Key) → A → ℕ
@@ -92,5 +58,5 @@ module _ (rs : List Region) where
 
 -- THE RECORDS SUFFICE
 pub records-suffice : (top : ℕ) (rs : List Region) (h : ℕ) (t : Tree h) → Sound top rs h t → total h t ≤ length rs
-unfolding inner box
+unfolding box
 records-suffice top rs h t s = omega (arith, total-few rs h 0 top t (s .part .order) (s .part .lists), filter-short (boxb 0 top 0 top) rs)

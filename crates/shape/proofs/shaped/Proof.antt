@@ -5,7 +5,7 @@ use borrow.Author.Needs.{needs}
 use mathlib.Core.Path.{_≡_, _∙_}
 use mathlib.Core.Logic.{⊎-elim}
 use native.Mathlib.Omega.{arith}
-use Rattle.shape.specs.Fills.{rootLeast}
+use Rattle.image.specs.Fills.{rootLeast}
 use Rattle.shape.proofs.Whole.{wrong-length, too-low, too-high, ended, least-first, least-other}
 use Rattle.shape.proofs.shaped.Statement.{statement}
 use Rattle.shape.proofs.shaped.Tie as tie
