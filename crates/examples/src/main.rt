@@ -1,31 +1,22 @@
 // Runs the examples of document 01 that are no theorems, and those traps of its source that a run can show. Each is compared with the answer that the document gives,
 // and has a line: its name, and `right`, or `wrong` with what came out and what should have.
-use libc::STDOUT_FILENO;
 use regions::Kind;
 use regions::Region;
 use regions::Seat;
 use regions::State;
 
-fn number(n: usize) {
-    io::print_decimal(STDOUT_FILENO, n as u64);
-}
-
-fn text(t: &[u8]) {
-    io::write_all(STDOUT_FILENO, t);
-}
-
 // An example's line.
 fn check(name: &[u8], got: usize, expected: usize) {
-    text(name);
+    console::text(name);
     if got == expected {
-        text(b": right\n");
+        console::text(b": right\n");
         return;
     }
-    text(b": wrong, ");
-    number(got);
-    text(b" and not ");
-    number(expected);
-    text(b"\n");
+    console::text(b": wrong, ");
+    console::number(got);
+    console::text(b" and not ");
+    console::number(expected);
+    console::text(b"\n");
 }
 
 // Opens a set in which account 0 has a share, and the others none.

@@ -6,23 +6,14 @@ ghost use lib.Dec.{T};
 ghost use lib.ListN.{length};
 ghost use Rattle.image.specs.Valid.{valid};
 use libc::STDIN_FILENO;
-use libc::STDOUT_FILENO;
 use regions::Mark;
 
-fn number(n: usize) {
-    io::print_decimal(STDOUT_FILENO, n as u64);
-}
-
-fn text(t: &[u8]) {
-    io::write_all(STDOUT_FILENO, t);
-}
-
 fn refused(n: u32, line: usize) {
-    text(b"refused ");
-    number(words::wide(n));
-    text(b" ");
-    number(line);
-    text(b"\n");
+    console::text(b"refused ");
+    console::number(words::wide(n));
+    console::text(b" ");
+    console::number(line);
+    console::text(b"\n");
 }
 
 // One account's pairs, batch after batch until one is empty.
@@ -38,7 +29,7 @@ fn print_batches(outer: &[u32], inner: &[u32], account: u32, pairs: &mut [u32], 
             return;
         }
         let n = b.bytes;
-        text(&out[..n]);
+        console::text(&out[..n]);
         mark = b.mark;
     }
 }

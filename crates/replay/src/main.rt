@@ -1,7 +1,6 @@
 // Plays scripts of public calls and prints their answers. Each argument names a script, played from a fresh store; without arguments standard input is one.
 // A script is at most 1,048,576 bytes, one command a line; `script.rt` has the table of the commands. At a line that is none, `script N` is printed, N its number
 // from 1, and the script ends there; of one that is too long only `script 0`.
-mod print;
 mod script;
 mod seats;
 mod sets;
@@ -145,6 +144,12 @@ fn play(
     on_store(outer, inner, store, c)
 }
 
+// The line of a script at which it ends.
+fn no_command(number: u32) {
+    console::text(b"script ");
+    console::line(&[number]);
+}
+
 // Plays a script.
 fn play_all(text: &[u8])
     requires { ⌜ length (now text) ≤ 1048576 ⌝ }
@@ -160,12 +165,12 @@ fn play_all(text: &[u8])
         line += 1;
         let end = script::line_end(text, at);
         if end == text.len() {
-            print::no_command(line);
+            no_command(line);
             return;
         }
         let c = script::read(&text[at..end]);
         if !c.ok {
-            print::no_command(line);
+            no_command(line);
             return;
         }
         let left = play(&mut outer, &mut inner, &mut buffer, &mut answers, store, c);
@@ -178,7 +183,7 @@ fn play_all(text: &[u8])
 fn play_from(fd: i32, room: &mut [u8; 1048577]) {
     let n = io::read_full(fd, room);
     if 1048576 < n {
-        print::no_command(0);
+        no_command(0);
         return;
     }
     let text: &[u8] = room;

@@ -1,5 +1,4 @@
 // The calls on the desk, each with the numbers of its line and its answer printed. The eight seats go in by value and come back.
-use crate::print;
 use crate::script;
 use crate::script::Numbers;
 use regions::Kind;
@@ -62,30 +61,31 @@ pub fn call(seats: [Seat; 8], what: usize, n: Numbers) -> [Seat; 8] {
     }
     if what == script::SEAT {
         let o = desk::open_seat_by_value(seats, n[0], n[1], kind_of(n[2]), n[3]);
-        print::line(&[o.number]);
+        console::line(&[o.number]);
         return o.seats;
     }
     if what == script::CLOSE {
         let c = desk::close_seat_by_value(seats, n[0]);
-        print::line(&[c.number]);
+        console::line(&[c.number]);
         return c.seats;
     }
     let d = desk::open_desk_by_value(seats);
-    print::line(&[d.number]);
+    console::line(&[d.number]);
     d.seats
 }
 
 // A part: its number, then its words.
 pub fn part(seats: [Seat; 8], buffer: &[u32], n: Numbers) {
     let number = desk::part_number_by_value(seats, buffer, n[0], n[1]);
-    print::line(&[number]);
-    print::rows(desk::part_by_value(seats, buffer, n[0], n[1]));
+    console::line(&[number]);
+    let part = desk::part_by_value(seats, buffer, n[0], n[1]);
+    console::rows(part, part.len() / 4);
 }
 
 // A round: its number and the eight counts.
 pub fn round(outer: &[u32], inner: &[u32], seats: [Seat; 8], buffer: &mut [u32]) -> [Seat; 8] {
     let r = desk::round_by_value(outer, inner, seats, buffer);
     let c = r.counts;
-    print::line(&[r.number, c[0], c[1], c[2], c[3], c[4], c[5], c[6], c[7]]);
+    console::line(&[r.number, c[0], c[1], c[2], c[3], c[4], c[5], c[6], c[7]]);
     r.seats
 }

@@ -1,7 +1,5 @@
 // The calls on images, each with the numbers of its line and its answer printed.
 ghost use Prim.Native.Nat.{_≤_};
-ghost use lib.ListN.{length};
-use crate::print;
 use crate::script;
 use crate::script::Numbers;
 use crate::seats;
@@ -15,13 +13,6 @@ pub fn least(n: usize, most: usize) -> usize
     if n < most { n } else { most }
 }
 
-// How many words so many rows of four take, where only those that fit a room are written.
-fn written(rows: usize, room: usize) -> usize
-    ensures { λ r. ⌜ r ≤ room ⌝ }
-{
-    4 * least(rows, room / 4)
-}
-
 fn open(img: &mut [u32], n: Numbers) {
     let mut shares = [0u32; 16];
     let mut a: usize = 0;
@@ -29,7 +20,7 @@ fn open(img: &mut [u32], n: Numbers) {
         shares[a] = n[1 + a];
         a += 1;
     }
-    print::line(&[index::open_set(img, shares)]);
+    console::line(&[index::open_set(img, shares)]);
 }
 
 fn save(img: &mut [u32], n: Numbers) {
@@ -39,30 +30,29 @@ fn save(img: &mut [u32], n: Numbers) {
         level: n[4],
         reference: n[5],
     };
-    print::line(&[index::save(img, n[1], r)]);
+    console::line(&[index::save(img, n[1], r)]);
 }
 
 fn ancestors(img: &[u32], n: Numbers, answers: &mut [u32]) {
     let room = least(words::wide(n[3]), answers.len());
     let r = index::find_ancestors(img, n[1], n[2], &mut answers[0..room]);
-    print::line(&[r.number, print::narrow(r.total)]);
-    let end = written(r.total, room);
-    print::rows(&answers[0..end]);
+    console::line(&[r.number, console::narrow(r.total)]);
+    console::rows(&answers[0..room], r.total);
 }
 
 // The same search with no room, for its step count.
 fn steps(img: &[u32], n: Numbers, answers: &mut [u32]) {
     let none: usize = 0;
     let r = index::find_ancestors(img, n[1], n[2], &mut answers[0..none]);
-    print::line(&[r.number, print::narrow(r.total), print::narrow(r.steps)]);
+    console::line(&[r.number, console::narrow(r.total), console::narrow(r.steps)]);
 }
 
 fn parent(img: &[u32], n: Numbers) {
     let p = index::find_parent(img, n[1], n[2], n[3]);
     match p {
-        Parent::Refused(number) => print::line(&[number, 0]),
-        Parent::Nothing => print::line(&[0, 0]),
-        Parent::At(r) => print::line(&[0, 1, r.start, r.end, r.level, r.reference]),
+        Parent::Refused(number) => console::line(&[number, 0]),
+        Parent::Nothing => console::line(&[0, 0]),
+        Parent::At(r) => console::line(&[0, 1, r.start, r.end, r.level, r.reference]),
     }
 }
 
@@ -74,17 +64,15 @@ fn told(more: bool) -> u32 {
 fn descendants(img: &[u32], n: Numbers, answers: &mut [u32]) {
     let room = least(words::wide(n[5]), answers.len());
     let r = index::find_descendants(img, n[1], n[2], n[3], n[4], &mut answers[0..room]);
-    print::line(&[r.number, print::narrow(r.count), told(r.more)]);
-    let end = written(r.count, room);
-    print::rows(&answers[0..end]);
+    console::line(&[r.number, console::narrow(r.count), told(r.more)]);
+    console::rows(&answers[0..room], r.count);
 }
 
 fn children(img: &[u32], n: Numbers, answers: &mut [u32]) {
     let room = least(words::wide(n[6]), answers.len());
     let r = index::find_children(img, n[1], n[2], n[3], n[4], n[5], &mut answers[0..room]);
-    print::line(&[r.number, print::narrow(r.count), told(r.more)]);
-    let end = written(r.count, room);
-    print::rows(&answers[0..end]);
+    console::line(&[r.number, console::narrow(r.count), told(r.more)]);
+    console::rows(&answers[0..room], r.count);
 }
 
 // A search in an image.
@@ -119,7 +107,7 @@ pub fn call(img: &mut [u32], what: usize, n: Numbers, answers: &mut [u32]) {
         return;
     }
     if what == script::DELETE {
-        print::line(&[index::delete(img, n[1], n[2])]);
+        console::line(&[index::delete(img, n[1], n[2])]);
         return;
     }
     search(img, what, n, answers);
@@ -130,9 +118,8 @@ pub fn join(outer: &[u32], inner: &[u32], n: Numbers, answers: &mut [u32]) {
     let room = least(words::wide(n[4]), answers.len());
     let kind = seats::kind_of(n[3]);
     let r = index::join_sets(outer, inner, n[2], kind, &mut answers[0..room]);
-    print::line(&[r.number, print::narrow(r.total)]);
-    let end = written(r.total, room);
-    print::rows(&answers[0..end]);
+    console::line(&[r.number, console::narrow(r.total)]);
+    console::rows(&answers[0..room], r.total);
 }
 
 fn put(img: &mut [u32], at: usize, value: u32) {

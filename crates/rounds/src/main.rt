@@ -2,104 +2,33 @@
 // The input is words of four bytes, low byte first: sixteen shares of outer, sixteen of inner, the number of calls, and for each call six words: what is called and five
 // more, of which it reads what it needs. 0 saves into outer and 1 into inner (account, start, end, level, reference), 2 deletes from outer and 3 from inner (account,
 // start), 4 opens a seat (seat, account, kind, limit), 5 closes one (seat), 6 is a round, 7 asks a part (seat, count), and all else opens the desk.
-ghost use Prim.Native.Nat.{_<_, _≤_};
-use libc::STDOUT_FILENO;
 use regions::Kind;
 use regions::Region;
 use regions::Seat;
 use regions::State;
 
-fn byte(x: u8) -> u32
-    ensures { λ r. ⌜ r < 256 ⌝ }
-{
-    (x as u32) % 256
-}
-
-// The next word of the input; 0 where it has ended.
-fn next_word() -> u32 {
-    let mut four = [0u8; 4];
-    io::read_full(0, &mut four);
-    byte(four[0]) + 256 * byte(four[1]) + 65536 * byte(four[2]) + 16777216 * byte(four[3])
-}
-
-fn read_shares() -> [u32; 16] {
-    let mut shares = [0u32; 16];
-    let mut i: usize = 0;
-    while i < 16 {
-        shares[i] = next_word();
-        i += 1;
-    }
-    shares
-}
-
-fn number(n: usize) {
-    io::print_decimal(STDOUT_FILENO, n as u64);
-}
-
-fn text(t: &[u8]) {
-    io::write_all(STDOUT_FILENO, t);
-}
-
-// A call's number, on a line.
-fn answered(n: u32) {
-    number(words::wide(n));
-    text(b"\n");
-}
-
-// Four words on a line: a pair.
-fn pair(out: &[u32], at: usize) {
-    if at < 1024 {
-        number(words::wide_word(out, at));
-        text(b" ");
-        number(words::wide_word(out, at + 1));
-        text(b" ");
-        number(words::wide_word(out, at + 2));
-        text(b" ");
-        number(words::wide_word(out, at + 3));
-        text(b"\n");
-    }
-}
-
-// The n pairs of a seat's words.
-fn handed(out: &[u32], seat: usize, n: u32) {
-    let mut i: u32 = 0;
-    while i < n {
-        if seat < 8 {
-            if i < 32 {
-                pair(out, 128 * seat + 4 * words::wide(i));
-            }
-        }
-        i += 1;
+// The n pairs that stand in the buffer from a place on.
+fn handed(buffer: &[u32], place: usize, n: u32) {
+    if place <= buffer.len() {
+        console::rows(&buffer[place..], words::wide(n));
     }
 }
 
 // A round: its number and counts on a line, then every seat's pairs.
-fn dealt(n: u32, counts: [u32; 8], buffer: &[u32]) {
-    number(words::wide(n));
+fn dealt(n: u32, c: [u32; 8], buffer: &[u32]) {
+    console::line(&[n, c[0], c[1], c[2], c[3], c[4], c[5], c[6], c[7]]);
     let mut i: usize = 0;
     while i < 8 {
-        text(b" ");
-        number(words::wide(counts[i]));
+        handed(buffer, 128 * i, c[i]);
         i += 1;
-    }
-    text(b"\n");
-    let mut j: usize = 0;
-    while j < 8 {
-        handed(buffer, j, counts[j]);
-        j += 1;
     }
 }
 
 // A part: its number and its words, on a line.
 fn parted(n: u32, part: &[u32]) {
-    number(words::wide(n));
-    let mut i: usize = 0;
-    while i < part.len() {
-        text(b" ");
-        number(words::wide(part[i]));
-        i += 1;
-    }
-    text(b"\n");
+    console::number(words::wide(n));
+    console::spaced(part);
+    console::text(b"\n");
 }
 
 fn kind_of(k: u32) -> Kind {
@@ -117,11 +46,11 @@ fn save(img: &mut [u32], account: u32, start: u32, end: u32, level: u32, referen
         level: level,
         reference: reference,
     };
-    answered(index::save(img, account, r));
+    console::line(&[index::save(img, account, r)]);
 }
 
 fn delete(img: &mut [u32], account: u32, start: u32) {
-    answered(index::delete(img, account, start));
+    console::line(&[index::delete(img, account, start)]);
 }
 
 // A call on one of the two sets.
@@ -166,27 +95,27 @@ fn serve(outer: &[u32], inner: &[u32], seats: [Seat; 8], buffer: &mut [u32]) -> 
 fn seated(seats: [Seat; 8], what: u32, a: u32, b: u32, c: u32, d: u32) -> [Seat; 8] {
     if what == 4 {
         let o = desk::open_seat_by_value(seats, a, b, kind_of(c), d);
-        answered(o.number);
+        console::line(&[o.number]);
         return o.seats;
     }
     if what == 5 {
         let s = desk::close_seat_by_value(seats, a);
-        answered(s.number);
+        console::line(&[s.number]);
         return s.seats;
     }
     let k = desk::open_desk_by_value(seats);
-    answered(k.number);
+    console::line(&[k.number]);
     k.seats
 }
 
 // One call: the seats as it leaves them.
 fn call(outer: &mut [u32], inner: &mut [u32], seats: [Seat; 8], buffer: &mut [u32]) -> [Seat; 8] {
-    let what = next_word();
-    let a = next_word();
-    let b = next_word();
-    let c = next_word();
-    let d = next_word();
-    let e = next_word();
+    let what = console::next_word();
+    let a = console::next_word();
+    let b = console::next_word();
+    let c = console::next_word();
+    let d = console::next_word();
+    let e = console::next_word();
     if what < 4 {
         on_sets(outer, inner, what, a, b, c, d, e);
         return seats;
@@ -218,7 +147,9 @@ fn closed_seat() -> Seat {
 
 // Opens a set with the next sixteen words for its shares.
 fn open(img: &mut [u32]) {
-    answered(index::open_set(img, read_shares()));
+    let mut shares = [0u32; 16];
+    console::next_words(&mut shares);
+    console::line(&[index::open_set(img, shares)]);
 }
 
 fn main() {
@@ -229,7 +160,7 @@ fn main() {
     let mut seats = [s; 8];
     open(&mut outer);
     open(&mut inner);
-    let calls = next_word();
+    let calls = console::next_word();
     let mut i: u32 = 0;
     while i < calls {
         let t = play(&mut outer, &mut inner, seats, &mut buffer);

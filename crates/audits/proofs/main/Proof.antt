@@ -8,10 +8,10 @@ use lib.ListN.{length, length-set}
 use Rattle.audits.proofs.main.Statement.{statement}
 use Rattle.audits.proofs.main.Tie as tie
 use Rattle.audits.proofs.case.Reads as case-reads
-use Rattle.audits.proofs.next_word.Reads as next-word-reads
-use Rattle.audits.proofs.read_image.Reads as read-image-reads
+use Rattle.console.proofs.next_word.Reads as next-word-reads
+use Rattle.console.proofs.next_words.Reads as next-words-reads
 use Rattle.audits.proofs.tell.Reads as tell-reads
-use Rattle.io.proofs.write_all.Reads as write-all-reads
+use Rattle.console.proofs.text.Reads as text-reads
 
 abbrev Inv-loop : tie.InvT-loop
 Inv-loop img₀ cases i₀ t4 img i = (i ≤ cases) × (length img ≡ 12288)
@@ -19,11 +19,11 @@ Inv-loop img₀ cases i₀ t4 img i = (i ≤ cases) × (length img ≡ 12288)
 abbrev μ-loop : tie.MeasureT-loop
 μ-loop img₀ cases i₀ t4 img i = cases - i
 
-slice-aggregate-read-image : tie.Need-slice-aggregate-read-image Inv-loop μ-loop
-slice-aggregate-read-image c = search needs
+slice-aggregate-next-words : tie.Need-slice-aggregate-next-words Inv-loop μ-loop
+slice-aggregate-next-words c = search needs
 
-read-image-requires : tie.Need-read-image-requires Inv-loop μ-loop
-read-image-requires c κs = search needs
+next-words-requires : tie.Need-next-words-requires Inv-loop μ-loop
+next-words-requires c κs = search needs
 
 slice-aggregate-tell : tie.Need-slice-aggregate-tell Inv-loop μ-loop
 slice-aggregate-tell c = search needs
@@ -52,11 +52,11 @@ loop-less c = search needs
 loop-again : tie.Need-loop-again Inv-loop μ-loop
 loop-again c = search needs
 
-slice-aggregate-write-all : tie.Need-slice-aggregate-write-all Inv-loop μ-loop
-slice-aggregate-write-all c = search needs
+slice-aggregate-text : tie.Need-slice-aggregate-text Inv-loop μ-loop
+slice-aggregate-text c = search needs
 
-write-all-requires : tie.Need-write-all-requires Inv-loop μ-loop
-write-all-requires c κs = search needs
+text-requires : tie.Need-text-requires Inv-loop μ-loop
+text-requires c κs = search needs
 
 returns : tie.Need-returns Inv-loop μ-loop
 returns c = search needs
@@ -67,8 +67,8 @@ main-spec =
     (tie.spec
     Inv-loop
     μ-loop
-    slice-aggregate-read-image
-    read-image-requires
+    slice-aggregate-next-words
+    next-words-requires
     slice-aggregate-tell
     tell-requires
     next-word-requires
@@ -78,6 +78,6 @@ main-spec =
     add-i
     loop-less
     loop-again
-    slice-aggregate-write-all
-    write-all-requires
+    slice-aggregate-text
+    text-requires
     returns)

@@ -8,7 +8,7 @@ use lib.ListN.{length, length-set}
 use Rattle.audits.proofs.read_changes.Statement.{statement}
 use Rattle.audits.proofs.read_changes.Tie as tie
 use Rattle.audits.proofs.at_most_8.Reads as at-most-8-reads
-use Rattle.audits.proofs.next_word.Reads as next-word-reads
+use Rattle.console.proofs.next_word.Reads as next-word-reads
 use Rattle.words.proofs.wide.Reads as wide-reads
 
 abbrev Inv-loop : tie.InvT-loop

@@ -8,10 +8,8 @@ use lib.ListN.{length}
 use Rattle.grows.proofs.main.Statement.{statement}
 use Rattle.grows.proofs.main.Tie as tie
 use Rattle.grows.proofs.call.Reads as call-reads
-use Rattle.grows.proofs.next_word.Reads as next-word-reads
-use Rattle.grows.proofs.read_shares.Reads as read-shares-reads
-use Rattle.grows.proofs.told.Reads as told-reads
-use Rattle.index.proofs.open_set.Reads as open-set-reads
+use Rattle.console.proofs.next_word.Reads as next-word-reads
+use Rattle.grows.proofs.open.Reads as open-reads
 
 abbrev Inv-loop : tie.InvT-loop
 Inv-loop img₀ out₀ calls i₀ img out i = (i ≤ calls) × (length img ≡ 12288) × (length out ≡ 4096)
@@ -19,17 +17,11 @@ Inv-loop img₀ out₀ calls i₀ img out i = (i ≤ calls) × (length img ≡ 1
 abbrev μ-loop : tie.MeasureT-loop
 μ-loop img₀ out₀ calls i₀ img out i = calls - i
 
-read-shares-requires : tie.Need-read-shares-requires Inv-loop μ-loop
-read-shares-requires c κs = search needs
+slice-aggregate-open : tie.Need-slice-aggregate-open Inv-loop μ-loop
+slice-aggregate-open c = search needs
 
-slice-aggregate-open-set : tie.Need-slice-aggregate-open-set Inv-loop μ-loop
-slice-aggregate-open-set c = search needs
-
-open-set-requires : tie.Need-open-set-requires Inv-loop μ-loop
-open-set-requires c κs = search needs
-
-told-requires : tie.Need-told-requires Inv-loop μ-loop
-told-requires c κs = search needs
+open-requires : tie.Need-open-requires Inv-loop μ-loop
+open-requires c κs = search needs
 
 next-word-requires : tie.Need-next-word-requires Inv-loop μ-loop
 next-word-requires c κs = search needs
@@ -64,10 +56,8 @@ main-spec =
     (tie.spec
     Inv-loop
     μ-loop
-    read-shares-requires
-    slice-aggregate-open-set
-    open-set-requires
-    told-requires
+    slice-aggregate-open
+    open-requires
     next-word-requires
     loop-holds
     slice-aggregate-call

@@ -12,7 +12,7 @@ use Rattle.printout.proofs.Texts.{batch-bytes, batch-words, batch-room}
 use Rattle.printout.proofs.Whole.{batch-less, join-ascends}
 use Rattle.listing_join.proofs.print_batches.Statement.{statement}
 use Rattle.listing_join.proofs.print_batches.Tie as tie
-use Rattle.listing_join.proofs.text.Reads as text-reads
+use Rattle.console.proofs.text.Reads as text-reads
 use Rattle.printout.proofs.next_lines.Reads as next-lines-reads
 
 abbrev Inv-loop : tie.InvT-loop

@@ -8,7 +8,7 @@ use Rattle.replay.proofs.play_all.Statement.{statement}
 use Rattle.replay.proofs.play_all.Tie as tie
 use Rattle.replay.proofs.fresh.Reads as fresh-reads
 use Rattle.replay.proofs.play.Reads as play-reads
-use Rattle.replay.proofs.print.no_command.Reads as no-command-reads
+use Rattle.replay.proofs.no_command.Reads as no-command-reads
 use Rattle.replay.proofs.script.line_end.Reads as line-end-reads
 use Rattle.replay.proofs.script.read.Reads as read-reads
 

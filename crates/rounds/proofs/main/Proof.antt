@@ -8,7 +8,7 @@ use lib.ListN.{length}
 use Rattle.rounds.proofs.main.Statement.{statement}
 use Rattle.rounds.proofs.main.Tie as tie
 use Rattle.rounds.proofs.closed_seat.Reads as closed-seat-reads
-use Rattle.rounds.proofs.next_word.Reads as next-word-reads
+use Rattle.console.proofs.next_word.Reads as next-word-reads
 use Rattle.rounds.proofs.open.Reads as open-reads
 use Rattle.rounds.proofs.play.Reads as play-reads
 

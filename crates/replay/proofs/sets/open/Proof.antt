@@ -8,7 +8,7 @@ use lib.ListN.{length, length-set}
 use Rattle.replay.proofs.sets.open.Statement.{statement}
 use Rattle.replay.proofs.sets.open.Tie as tie
 use Rattle.index.proofs.open_set.Reads as open-set-reads
-use Rattle.replay.proofs.print.line.Reads as line-reads
+use Rattle.console.proofs.line.Reads as line-reads
 
 abbrev Inv-loop : tie.InvT-loop
 Inv-loop img n shares₀ a₀ shares a = (a ≤ 16) × (length shares ≡ 16)

@@ -1,19 +1,19 @@
--- `audits::read_image` is safe and ends.
+-- `console::next_words` is safe and ends.
 -- Assumes nothing.
 use borrow.Author.Needs.{needs}
-use Prim.Native.Nat.{_+_, _-_, _≤_}
-use mathlib.Core.Path.{_≡_, _∙_}
+use Prim.Native.Nat.{_-_, _≤_}
+use mathlib.Core.Path.{_≡_}
 use native.Mathlib.Omega.{arith}
 use lib.ListN.{length, length-set}
-use Rattle.audits.proofs.read_image.Statement.{statement}
-use Rattle.audits.proofs.read_image.Tie as tie
-use Rattle.audits.proofs.next_word.Reads as next-word-reads
+use Rattle.console.proofs.next_words.Statement.{statement}
+use Rattle.console.proofs.next_words.Tie as tie
+use Rattle.console.proofs.next_word.Reads as next-word-reads
 
 abbrev Inv-loop : tie.InvT-loop
-Inv-loop img₀ i₀ img i = (i ≤ length img) × (length img ≡ length img₀)
+Inv-loop room₀ i₀ room i = (i ≤ length room) × (length room ≡ length room₀)
 
 abbrev μ-loop : tie.MeasureT-loop
-μ-loop img₀ i₀ img i = length img - i
+μ-loop room₀ i₀ room i = length room - i
 
 loop-holds : tie.Need-loop-holds Inv-loop μ-loop
 loop-holds c = search needs
@@ -21,11 +21,11 @@ loop-holds c = search needs
 next-word-requires : tie.Need-next-word-requires Inv-loop μ-loop
 next-word-requires c κs = search needs
 
-mul-img : tie.Need-mul-img Inv-loop μ-loop
-mul-img c = search needs
+mul-room : tie.Need-mul-room Inv-loop μ-loop
+mul-room c = search needs
 
-slice-write-img : tie.Need-slice-write-img Inv-loop μ-loop
-slice-write-img c = search needs
+slice-write-room : tie.Need-slice-write-room Inv-loop μ-loop
+slice-write-room c = search needs
 
 add-i : tie.Need-add-i Inv-loop μ-loop
 add-i c = search needs
@@ -42,16 +42,16 @@ same-length c = c .before .loop .inv .1
 returns : tie.Need-returns Inv-loop μ-loop
 returns c = search needs
 
-pub read-image-spec : {M : Type 1} → statement M
-read-image-spec =
+pub next-words-spec : {M : Type 1} → statement M
+next-words-spec =
     tie.close
     (tie.spec
     Inv-loop
     μ-loop
     loop-holds
     next-word-requires
-    mul-img
-    slice-write-img
+    mul-room
+    slice-write-room
     add-i
     loop-less
     loop-again

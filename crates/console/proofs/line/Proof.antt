@@ -1,21 +1,21 @@
--- `replay::print::line` is safe and ends.
+-- `console::line` is safe and ends.
 -- Assumes nothing.
 use borrow.Author.Needs.{needs}
 use Prim.Native.Nat.{_-_, _*_, _≤_}
 use mathlib.Core.Path.{_≡_}
 use native.Mathlib.Omega.{arith}
 use lib.ListN.{length, length-take}
-use Rattle.replay.proofs.print.line.Statement.{statement}
-use Rattle.replay.proofs.print.line.Tie as tie
-use Rattle.io.proofs.write_all.Reads as write-all-reads
+use Rattle.console.proofs.line.Statement.{statement}
+use Rattle.console.proofs.line.Tie as tie
+use Rattle.console.proofs.behind.Reads as behind-reads
+use Rattle.console.proofs.text.Reads as text-reads
 use Rattle.lines.proofs.put_number.Reads as put-number-reads
-use Rattle.replay.proofs.print.behind.Reads as behind-reads
 
 abbrev Inv-loop : tie.InvT-loop
-Inv-loop numbers text₀ n at₀ i₀ text at i = (i ≤ n) × (at ≤ 11 * i) × (length text ≡ 99)
+Inv-loop numbers bytes₀ n at₀ i₀ bytes at i = (i ≤ n) × (at ≤ 11 * i) × (length bytes ≡ 99)
 
 abbrev μ-loop : tie.MeasureT-loop
-μ-loop numbers text₀ n at₀ i₀ text at i = n - i
+μ-loop numbers bytes₀ n at₀ i₀ bytes at i = n - i
 
 loop-holds : tie.Need-loop-holds Inv-loop μ-loop
 loop-holds c = search needs
@@ -38,8 +38,8 @@ sub-behind c = search needs
 behind-requires : tie.Need-behind-requires Inv-loop μ-loop
 behind-requires c κs = search needs
 
-array-write-text : tie.Need-array-write-text Inv-loop μ-loop
-array-write-text c = search needs
+array-write-bytes : tie.Need-array-write-bytes Inv-loop μ-loop
+array-write-bytes c = search needs
 
 add-at : tie.Need-add-at Inv-loop μ-loop
 add-at c = search needs
@@ -53,14 +53,14 @@ loop-less c = search needs
 loop-again : tie.Need-loop-again Inv-loop μ-loop
 loop-again c = search needs
 
-array-share-prefix-text : tie.Need-array-share-prefix-text Inv-loop μ-loop
-array-share-prefix-text c = search needs
+array-share-prefix-bytes : tie.Need-array-share-prefix-bytes Inv-loop μ-loop
+array-share-prefix-bytes c = search needs
 
-slice-aggregate-write-all : tie.Need-slice-aggregate-write-all Inv-loop μ-loop
-slice-aggregate-write-all c = simp length-take (omega arith)
+slice-aggregate-text : tie.Need-slice-aggregate-text Inv-loop μ-loop
+slice-aggregate-text c = simp length-take (omega arith)
 
-write-all-requires : tie.Need-write-all-requires Inv-loop μ-loop
-write-all-requires c κs = search needs
+text-requires : tie.Need-text-requires Inv-loop μ-loop
+text-requires c κs = search needs
 
 returns : tie.Need-returns Inv-loop μ-loop
 returns c = search needs
@@ -78,12 +78,12 @@ line-spec =
     put-number-requires
     sub-behind
     behind-requires
-    array-write-text
+    array-write-bytes
     add-at
     add-i
     loop-less
     loop-again
-    array-share-prefix-text
-    slice-aggregate-write-all
-    write-all-requires
+    array-share-prefix-bytes
+    slice-aggregate-text
+    text-requires
     returns)

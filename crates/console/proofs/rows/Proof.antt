@@ -1,23 +1,26 @@
--- `replay::print::rows` is safe and ends.
+-- `console::rows` is safe and ends.
 -- Assumes nothing.
 use borrow.Author.Needs.{needs}
 use Prim.Native.Nat.{_-_, _≤_}
 use lib.ListN.{length}
-use Rattle.replay.proofs.print.rows.Statement.{statement}
-use Rattle.replay.proofs.print.rows.Tie as tie
-use Rattle.replay.proofs.print.line.Reads as line-reads
+use Rattle.console.proofs.rows.Statement.{statement}
+use Rattle.console.proofs.rows.Tie as tie
+use Rattle.console.proofs.line.Reads as line-reads
 
 abbrev Inv-loop : tie.InvT-loop
-Inv-loop words at₀ at = at ≤ length words
+Inv-loop words n at₀ i₀ at i = (i ≤ n) × (at ≤ length words)
 
 abbrev μ-loop : tie.MeasureT-loop
-μ-loop words at₀ at = length words - at
+μ-loop words n at₀ i₀ at i = n - i
 
 loop-holds : tie.Need-loop-holds Inv-loop μ-loop
 loop-holds c = search needs
 
-sub-loop : tie.Need-sub-loop Inv-loop μ-loop
-sub-loop c = search needs
+sub-if1 : tie.Need-sub-if1 Inv-loop μ-loop
+sub-if1 c = search needs
+
+returns : tie.Need-returns Inv-loop μ-loop
+returns c = search needs
 
 add-end : tie.Need-add-end Inv-loop μ-loop
 add-end c = search needs
@@ -37,14 +40,17 @@ part-line-end c = search needs
 line-requires : tie.Need-line-requires Inv-loop μ-loop
 line-requires c κs = search needs
 
+add-i : tie.Need-add-i Inv-loop μ-loop
+add-i c = search needs
+
 loop-less : tie.Need-loop-less Inv-loop μ-loop
 loop-less c = search needs
 
 loop-again : tie.Need-loop-again Inv-loop μ-loop
 loop-again c = search needs
 
-returns : tie.Need-returns Inv-loop μ-loop
-returns c = search needs
+returns-2 : tie.Need-returns-2 Inv-loop μ-loop
+returns-2 c = search needs
 
 pub rows-spec : {M : Type 1} → statement M
 rows-spec =
@@ -53,13 +59,15 @@ rows-spec =
     Inv-loop
     μ-loop
     loop-holds
-    sub-loop
+    sub-if1
+    returns
     add-end
     mul-line
     sub-line
     part-line-start
     part-line-end
     line-requires
+    add-i
     loop-less
     loop-again
-    returns)
+    returns-2)
