@@ -10,6 +10,7 @@ use Rattle.regions.specs.Numbers.{unless}
 use Rattle.regions.specs.Desk.{closed, seatWord}
 use Rattle.regions.specs.declared.Region.{Region}
 use Rattle.regions.specs.declared.Seat.{Seat}
+use Rattle.index.specs.Searches.{parentNumber, parentFound}
 use Rattle.index.proofs.Once.{parent-once}
 use Rattle.desk.proofs.Once.{opens-desk-once, opens-seat-once, closes-seat-once, rounds-once}
 use Rattle.capi.specs.Border.{kindOf, told, TellsParent}
@@ -19,9 +20,9 @@ use Rattle.capi.specs.declared.FlatSeat.{FlatSeat}
 pub tells-once : (w : List ℕ) (a p l : ℕ) (m n : ℕ) (f g : Bool) (r s : Region) → TellsParent w a p l m f r → TellsParent w a p l n g s → (m ≡ n) × (f ≡ g) × (r ≡ s)
 tells-once w a p l m n f g r s x y =
     let same = parent-once w a p l (x .answer) (y .answer) (x .finds) (y .finds) in (
-      x .number-is ∙ (same .0 ∙ sym (y .number-is)),
-      x .found-is ∙ (ap some (same .1) ∙ sym (y .found-is)),
-      x .region-is ∙ (ap told (same .1) ∙ sym (y .region-is)),
+      x .number-is ∙ (ap parentNumber same ∙ sym (y .number-is)),
+      x .found-is ∙ (ap (λ z. some (parentFound z)) same ∙ sym (y .found-is)),
+      x .region-is ∙ (ap (λ z. told (parentFound z)) same ∙ sym (y .region-is)),
     )
 
 -- what is left is one where the number and the seats are
