@@ -3,3 +3,4 @@ pub mod Parts
 pub mod Fills
 pub mod Facts
 pub mod Small
+pub mod Sound

@@ -1,6 +1,6 @@
 -- The walk along the leaves: a turn, and each way out; and which regions it lists.
 -- Assumes nothing.
-use Prim.Native.Nat.{ℕ, _+_, _<_, _≤_, max}
+use Prim.Native.Nat.{ℕ, suc, _+_, _<_, _≤_, max}
 use mathlib.Core.Path.{_≡_, refl, sym, ap, _∙_}
 use mathlib.Core.Bool.{Bool, true, false, _&&_}
 use mathlib.Core.List.{List, [], _∷_, _++_}
@@ -9,26 +9,29 @@ use lib.ListN.{length, length-append}
 use native.Mathlib.Omega.{arith}
 use Rattle.words.specs.Lists.{filter}
 use Rattle.words.proofs.Tests.{by-test, lt-yes, lt-no, and-false}
-use Rattle.words.proofs.Listed.{all-mono, all-every, filter-all, filter-none, filter-filter, filter-both}
+use Rattle.words.proofs.Listed.{all-mono, all-every, filter-all, filter-none, filter-filter, filter-both, pairs-kept}
 use Rattle.words.proofs.Says.{Says, and-says, lt-says}
 use Rattle.regions.specs.Positions.{inside, isBelow}
-use Rattle.regions.specs.Sets.{Set, startsBehind}
+use Rattle.regions.specs.Sets.{Set, startsBehind, startsFrom}
 use Rattle.regions.specs.Calls.{room, written, countWritten, regionWords, descendants, children}
 use Rattle.regions.specs.declared.Region.{Region}
 use Rattle.regions.proofs.Fits.{count-is, more-is}
-use Rattle.regions.proofs.Means.{inside-says, behind-says}
+use Rattle.regions.proofs.Means.{inside-says, behind-says, behind-from}
 use Rattle.regions.specs.Sound.{Rising}
+use Rattle.image.specs.Read.{setOf}
+use Rattle.image.specs.Valid.{valid}
+use Rattle.image.proofs.Sound.{set-rises}
 use Rattle.answers.specs.Items.{writtenFrom}
 use Rattle.answers.proofs.Items.{from-none, from-long, from-full, from-first, from-append}
 use Rattle.leaves.specs.declared.Entry.{Entry}
 use Rattle.leaves.specs.declared.Cursor.{Cursor}
 use Rattle.leaves.specs.declared.Step.the-variants.{Next, End}
 use Rattle.leaves.specs.Cursors.{stepFrom}
+use Rattle.leaves.specs.Faces.{Faces}
+use Rattle.leaves.proofs.Faces.{faces-on, faces-end}
 use Rattle.inward.specs.declared.Wanted.{Wanted}
 use Rattle.inward.specs.declared.Wanted.the-variants.{All as Every, Below}
 use Rattle.inward.specs.Lists.{wants, asked, Listed}
-use Rattle.inward.specs.Faces.{Faces}
-use Rattle.inward.proofs.Faces.{faces-on, faces-end}
 
 -- ONE REGION, wanted or not
 pub wants-all : (v : Wanted) (r : Region) → v ≡ Every → true ≡ wants v r
@@ -72,9 +75,19 @@ pub record Walking (w : List ℕ) (v : Wanted) (end : ℕ) (goal : List Region) 
   pub words : writtenFrom regionWords 4 count out (filter (asked v end) rs) ≡ written regionWords 4 out₀ goal
   pub total : count + length (filter (asked v end) rs) ≡ length goal
 
-pub walk-start : {w : List ℕ} (v : Wanted) (end : ℕ) {c : Cursor} {rs : List Region} (out : List ℕ) → Faces w c rs → Rising rs → Walking w v end (filter (asked v end) rs) out c out 0
-walk-start v end {rs = rs} out f h =
-    record { rs = rs; faces = f; rising = h; long = refl; words = from-first regionWords 4 out (filter (asked v end) rs); total = omega arith }
+-- from behind x on
+pub walk-start : (w : List ℕ) (x : ℕ) (v : Wanted) (end : ℕ) (c : Cursor) (out : List ℕ) → T (valid w) → Faces w c (filter (startsFrom (suc x)) (setOf w .regions))
+    → Walking w v end (filter (asked v end) (filter (startsBehind x) (setOf w .regions))) out c out 0
+walk-start w x v end c out t f =
+    let rs = filter (startsBehind x) (setOf w .regions) in
+    record {
+      rs = rs;
+      faces = rw (behind-from x (setOf w .regions)) f;
+      rising = pairs-kept (λ a b. a .start < b .start) (startsBehind x) (setOf w .regions) (set-rises w t);
+      long = refl;
+      words = from-first regionWords 4 out (filter (asked v end) rs);
+      total = omega arith;
+    }
 
 module _ {w : List ℕ} {v : Wanted} {end : ℕ} {goal : List Region} {out₀ : List ℕ} {c : Cursor} {out : List ℕ} {count : ℕ} (k : Walking w v end goal out₀ c out count) where
   ends : filter (asked v end) (k .rs) ≡ [] → count ≤ room 4 out₀ → Listed goal out₀ out (record { count = count; more = false })

@@ -10,11 +10,10 @@ use lib.ListN.{length}
 use native.Mathlib.Omega.{arith}
 use Rattle.words.specs.Lists.{filter, All}
 use Rattle.words.proofs.Tests.{by-test}
-use Rattle.words.proofs.Listed.{all-mono, all-every, all-let, all-map, all-kept, pairs-kept, filter-yes, filter-no, filter-all, filter-none, filter-same, filter-within, none-of, filter-flat}
-use Rattle.words.proofs.Says.{Says, says-same, says-iff, le-says}
+use Rattle.words.proofs.Listed.{all-mono, all-every, all-map, all-kept, filter-yes, filter-no, filter-all, filter-none, filter-within, none-of, filter-flat}
 use Rattle.words.proofs.Counted.{filter-short}
 use Rattle.regions.specs.Positions.{account, holds}
-use Rattle.regions.specs.Sets.{Set, of, startsBehind}
+use Rattle.regions.specs.Sets.{Set, of, startsFrom}
 use Rattle.regions.specs.Calls.{Pair, pairsWith, pairOf, pairsOf, joined}
 use Rattle.regions.specs.Desk.{isPast, past}
 use Rattle.regions.specs.declared.Region.{Region}
@@ -22,58 +21,20 @@ use Rattle.regions.specs.declared.Kind.{Kind}
 use Rattle.regions.specs.declared.Mark.{Mark}
 use Rattle.regions.specs.declared.Mark.the-variants.{Fresh, Last}
 use Rattle.regions.proofs.Extra.{true-so, so-true, false-so, so-false}
-use Rattle.regions.proofs.Means.{of-says, behind-says}
-use Rattle.regions.specs.Sound.{Wf, Rising}
+use Rattle.regions.proofs.Means.{of-says, from-says}
+use Rattle.regions.specs.Sound.{Wf}
 use Rattle.regions.proofs.Local.{holds-account}
 use Rattle.regions.proofs.Joined.{pairs-hold, later-says}
-use Rattle.xrtree.proofs.Extra.{skip}
-use Rattle.search.proofs.Tasks.{pairs-not}
-use Rattle.join.specs.Joins.{lowest, firstPosition, startsFrom, Clear}
+use Rattle.stack.proofs.Stacks.{upto-strict, holders-skip, from-within, First}
+use Rattle.stack.proofs.Pairs.{pairs-not}
+use Rattle.join.specs.Joins.{lowest, firstPosition, Clear}
 
 -- FROM A POSITION ON
-pub from-says : (y : ℕ) (r : Region) → Says (startsFrom y r) (y ≤ r .start)
-unfolding startsFrom
-from-says y r = le-says y (r .start)
-
 pub from-all : (rs : List Region) → filter (startsFrom 0) rs ≡ rs
 from-all rs = filter-all (startsFrom 0) rs (all-every (λ r. so-true (from-says 0 r) (omega arith)) rs)
 
-pub from-behind : (x y : ℕ) (rs : List Region) → y ≡ suc x → filter (startsBehind x) rs ≡ filter (startsFrom y) rs
-from-behind x y rs e =
-    filter-same (startsBehind x) (startsFrom y) rs
-    (all-every (λ r. says-same (behind-says x r) (says-iff (from-says y r) (λ h. omega arith) (λ h. omega arith))) rs)
-
-from-within : (y y′ : ℕ) (rs : List Region) → y ≤ y′ → filter (startsFrom y′) rs ≡ filter (startsFrom y′) (filter (startsFrom y) rs)
-from-within y y′ rs l =
-    filter-within (startsFrom y′) (startsFrom y) rs
-    (all-every {P = λ r. startsFrom y′ r ≡ true → startsFrom y r ≡ true} (λ r h. so-true (from-says y r) (let k = true-so (from-says y′ r) h in omega arith)) rs)
-
 pub from-fewer : (y y′ : ℕ) (rs : List Region) → y ≤ y′ → length (filter (startsFrom y′) rs) ≤ length (filter (startsFrom y) rs)
 from-fewer y y′ rs l = omega (arith, ap length (from-within y y′ rs l), filter-short (startsFrom y′) (filter (startsFrom y) rs))
-
--- the first of them, and the others: those that start behind it
-pub record First (rs : List Region) (y : ℕ) (d : Region) (rest : List Region) : Type 0 where
-  pub low : y ≤ d .start
-  pub behind : All (λ (x : Region). d .start ≤ x .start) (d ∷ rest)
-  pub others : rest ≡ filter (startsFrom (suc (d .start))) rs
-
-pub first-from : (rs : List Region) (y : ℕ) (d : Region) (rest : List Region) → Rising rs → filter (startsFrom y) rs ≡ d ∷ rest → First rs y d rest
-first-from rs y d rest h e =
-    let up : Rising (d ∷ rest) = subst (λ (l : List Region). Rising l) e (pairs-rise y) in
-    let low : y ≤ d .start = true-so (from-says y d) (subst (λ (l : List Region). All (λ x. startsFrom y x ≡ true) l) e (all-let (startsFrom y) rs) .0) in
-    let s = suc (d .start) in
-    record {
-      low = low;
-      behind = (omega arith, all-mono {Q = λ x. d .start ≤ x .start} (λ x k. omega arith) rest (up .0));
-      others =
-          sym
-          (from-within y s rs (omega arith) ∙ ap (filter (startsFrom s)) e
-          ∙ filter-no (startsFrom s) d rest (so-false (from-says s d) (λ k. omega arith))
-          ∙ filter-all (startsFrom s) rest (all-mono {Q = λ x. startsFrom s x ≡ true} (λ x k. so-true (from-says s x) (omega arith)) rest (up .0)));
-    }
-  where
-    pairs-rise : (z : ℕ) → Rising (filter (startsFrom z) rs)
-    pairs-rise z = pairs-kept (λ x y. x .start < y .start) (startsFrom z) rs h
 
 -- d's that yield nothing may be left out
 module _ (g : Region → List Pair) (p : Region → Bool) where
@@ -156,7 +117,7 @@ module _ (xs : List Region) (a : ℕ) (k : Kind) (m : Mark) where
   ahead-skip ds p q e c =
       flat-skip pairsAt (of a) (suc p) (suc q) (omega (arith, c .far)) ds
       (all-every {P = λ d. of a d ≡ true → suc p ≤ d .start → d .start < suc q → pairsAt d ≡ []}
-      (λ d h u v. pairs-none d (skip xs p q (d .start) e (c .none) (omega arith) (omega arith))) ds)
+      (λ d h u v. pairs-none d (sym (upto-strict (d .start) xs) ∙ holders-skip p p (d .start) (d .start) q xs (upto-strict p xs ∙ e) (c .none) (omega arith) (omega arith))) ds)
 
   -- the first d is of the account, or of another: then no later one is of it
   pub ahead-own : (ds : List Region) (y : ℕ) (d : Region) (rest : List Region) → First ds y d rest → filter (startsFrom y) ds ≡ d ∷ rest → of a d ≡ true
@@ -172,7 +133,7 @@ module _ (xs : List Region) (a : ℕ) (k : Kind) (m : Mark) where
       ap (λ l. flatMap pairsAt (filter (of a) l)) e
       ∙ ap (flatMap pairsAt)
       (filter-none (of a) (d ∷ rest)
-      (all-mono {Q = λ x. of a x ≡ false} (λ x u. so-false (of-says a x) (λ q. omega (arith, f .low))) (d ∷ rest) (f .behind)))
+      (all-mono {Q = λ x. of a x ≡ false} (λ x u. so-false (of-says a x) (λ q. omega (arith, f .low))) (d ∷ rest) (f .least)))
 
   pub ahead-none : (ds : List Region) (y : ℕ) → filter (startsFrom y) ds ≡ [] → pairsFrom ds y ≡ []
   unfolding filter flatMap

@@ -1,4 +1,4 @@
-pub mod Sound
+pub mod Moves
 pub mod Ahead
-pub mod Turns
 pub mod Ways
+pub mod Turns

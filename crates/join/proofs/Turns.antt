@@ -1,19 +1,19 @@
 -- The join's loop: its start, a turn, and each way out.
 -- Assumes nothing.
-use Prim.Native.Nat.{ℕ, suc, _+_, _*_, _<_, _≤_, min}
-use mathlib.Core.Path.{_≡_, refl, sym, ap, ap₂, _∙_, subst}
+use Prim.Native.Nat.{ℕ, suc, _+_, _*_, _/_, _<_, _≤_, min}
+use mathlib.Core.Path.{_≡_, refl, sym, ap, _∙_, subst}
 use mathlib.Core.Bool.{Bool, true, false, cond, _||_, false≢true}
-use mathlib.Core.List.{List, [], _∷_, _++_, map}
+use mathlib.Core.List.{List, [], _∷_, _++_, flatMap}
 use lib.Dec.{ltb}
-use lib.ListN.{length, length-append, length-map}
+use lib.ListN.{length}
 use native.Mathlib.Omega.{arith}
 use Rattle.words.specs.Lists.{filter}
 use Rattle.words.proofs.Tests.{by-test, nlt-of}
 use Rattle.words.proofs.Counted.{filter-short}
-use Rattle.regions.specs.Positions.{holds}
-use Rattle.regions.specs.Sets.{of}
-use Rattle.regions.specs.Calls.{Pair, room, written, ancestors, pairsWith, pairOf, pairsOf, joined, pairWords}
-use Rattle.regions.specs.Desk.{isPast, past}
+use Rattle.regions.specs.Positions.{account, holds}
+use Rattle.regions.specs.Sets.{of, startsFrom}
+use Rattle.regions.specs.Calls.{Pair, room, written, countWritten, pairsOf, joined, pairWords}
+use Rattle.regions.specs.Desk.{past}
 use Rattle.regions.specs.declared.Region.{Region}
 use Rattle.regions.specs.declared.Kind.{Kind}
 use Rattle.regions.specs.declared.Mark.{Mark}
@@ -23,18 +23,25 @@ use Rattle.regions.specs.Sound.{Rising, Sound}
 use Rattle.regions.proofs.Joined.{past-fresh}
 use Rattle.image.specs.Read.{setOf}
 use Rattle.answers.specs.Items.{writtenFrom}
-use Rattle.answers.proofs.Items.{from-none, from-long, from-full, from-first, from-append}
+use Rattle.answers.proofs.Items.{from-none, from-full, from-first}
 use Rattle.leaves.specs.declared.Entry.{Entry}
 use Rattle.leaves.specs.declared.Cursor.{Cursor}
 use Rattle.leaves.specs.declared.Step.{Step}
 use Rattle.leaves.specs.declared.Step.the-variants.{Next, End}
-use Rattle.leaves.specs.Cursors.{left, stepFrom}
-use Rattle.search.specs.declared.Tally.{Tally}
-use Rattle.search.specs.Tallies.{freshTally, Small}
-use Rattle.inward.specs.Faces.{Faces}
-use Rattle.inward.proofs.Faces.{never, Onward, faces-on, faces-end, faces-long}
-use Rattle.join.specs.Joins.{lowest, firstPosition, startsFrom, ownStep, Moved, Turned, Joined, JoinedAll}
-use Rattle.join.proofs.Ahead.{First, first-from, from-fewer, position-low, pairsFrom, pairs-own, ahead-skip, ahead-own, ahead-other, ahead-none, ahead-all}
+use Rattle.leaves.specs.Cursors.{left, stepFrom, startFaced}
+use Rattle.leaves.specs.Faces.{Faces}
+use Rattle.leaves.proofs.Faces.{never, Onward, faces-on, faces-end, faces-long}
+use Rattle.stack.specs.Stacks.{stacked}
+use Rattle.stack.specs.Pairs.{counted, PairedUp}
+use Rattle.stack.proofs.Stacks.{upto-strict, First, first-from}
+use Rattle.stack.proofs.Stacked.{stacked-long}
+use Rattle.stack.proofs.Pairs.{paired-long, paired-whole}
+use Rattle.join.specs.declared.Stack.{Stack}
+use Rattle.join.specs.Places.{Placed, Behind}
+use Rattle.join.specs.Joins.{lowest, firstPosition, ownStep, Moved, Joined, JoinedAll}
+use Rattle.join.proofs.Moves.{placed-behind, behind-later, placed-few, placed-pairs}
+use Rattle.join.proofs.Ahead.{from-fewer, position-low, pairsAt, pairsFrom, pairs-own, ahead-skip, ahead-own, ahead-other, ahead-none, ahead-all}
+use Rattle.join.proofs.Ways.{foreign-end, clear-next, clear-same}
 
 -- STEPS: what a step of the account says of the cursor's own
 pub own-next : (a : ℕ) (s : Step) (e : Entry) (on : Cursor) → ownStep a s ≡ Next e on → (s ≡ Next e on) × (of a (e .region) ≡ true)
@@ -54,90 +61,128 @@ unfolding ownStep
 other a End p f g = f refl
 other a (Next x c) p f g = by-test (of a (x .region)) (λ h. absurd (never End x c refl (sym (rw h at p)))) (λ h. g x c refl h)
 
--- how many one d can yield
-pairs-few : (m : Mark) (k : Kind) (xs : List Region) (d : Region) → length (past m (pairsOf k xs d)) ≤ length xs
-unfolding pairsOf
-pairs-few m k xs d =
-    omega (arith, filter-short (isPast m) (map (pairOf d) (filter (pairsWith k d) xs)), length-map (filter (pairsWith k d) xs) (pairOf d), filter-short (pairsWith k d) xs)
+-- no step of the account, from its first position on or later: no pair is ahead
+none-ahead : (w v : List ℕ) (a : ℕ) (k : Kind) (m : Mark) (c : Cursor) (y : ℕ) → Rising (setOf v .regions) → lowest a ≤ y → Faces v c (filter (startsFrom y) (setOf v .regions))
+    → ownStep a (stepFrom v c) ≡ End → pairsFrom (setOf w .regions) a k m (setOf v .regions) y ≡ []
+none-ahead w v a k m c y up low f s =
+    let rs = setOf w .regions in
+    let ds = setOf v .regions in
+    other a (stepFrom v c) s (λ e. ahead-none rs a k m ds y (faces-end v c _ f e))
+    (λ e on p h.
+    let o = faces-on v c _ e on f p in
+    ahead-other rs a k m ds y (e .region) (o .rest) low (first-from ds y (e .region) (o .rest) up (o .is)) (o .is) h)
 
--- THE LOOP: what was written, with the pairs of the d's that are ahead, is all; and the sums stay small
-pub record Joining (w v : List ℕ) (a : ℕ) (k : Kind) (m : Mark) (out₀ : List ℕ) (c : Cursor) (out : List ℕ) (t : Tally) : Type 0 where
+-- NOTHING TO JOIN: the start faced, from the first position on, is of another account
+pub join-none : (w v : List ℕ) (a : ℕ) (k : Kind) (m : Mark) (all : Bool) (out : List ℕ) (c : Cursor) (y b s : ℕ) → Rising (setOf v .regions) → y ≡ firstPosition a m
+    → Faces v c (filter (startsFrom y) (setOf v .regions)) → s ≡ startFaced (stepFrom v c) → b ≡ account s → (b ≡ a → ⊥) → Joined (past m (joined (setOf w) (setOf v) a k)) all out out 0
+join-none w v a k m all out c y b s up e f g h n =
+    let first : ownStep a (stepFrom v c) ≡ End = foreign-end a (stepFrom v c) (λ q. n (h ∙ ap account g ∙ q)) in
+    let none : past m (joined (setOf w) (setOf v) a k) ≡ [] =
+    sym (ahead-all (setOf w) (setOf v) a k m) ∙ none-ahead w v a k m c (firstPosition a m) up (position-low a m) (rw e at f) first in
+    rw none
+    (record { words = sym (from-none pairWords 4 0 out) ∙ from-first pairWords 4 out []; total = nothing all ∙ ap (λ i. cond all 0 i) (sym (count-is 4 out [])) })
+  where
+    nothing : (b : Bool) → 0 ≡ cond b 0 (min (room 4 out) 0)
+    nothing true = refl
+    nothing false = omega arith
+
+-- THE LOOP: what was written, with the pairs of the d's that are ahead, is all; what is counted too; the sums stay small; and the stack is at a place that is not behind them
+pub record Joining (w v : List ℕ) (a : ℕ) (k : Kind) (m : Mark) (all : Bool) (out₀ : List ℕ) (c : Cursor) (held : List ℕ) (t : Stack) (out : List ℕ) (n : ℕ) : Type 0 where
   pub at : ℕ
   pub low : lowest a ≤ at
   pub faces : Faces v c (filter (startsFrom at) (setOf v .regions))
   pub long : length out ≡ length out₀
-  pub words : writtenFrom pairWords 4 (t .total) out (pairsFrom (setOf w .regions) a k m (setOf v .regions) at) ≡ written pairWords 4 out₀ (past m (joined (setOf w) (setOf v) a k))
-  pub total : t .total + length (pairsFrom (setOf w .regions) a k m (setOf v .regions) at) ≡ length (past m (joined (setOf w) (setOf v) a k))
-  pub few-total : t .total + 500 * length (filter (startsFrom at) (setOf v .regions)) ≤ 250000
-  pub few-met : t .met + 500 * length (filter (startsFrom at) (setOf v .regions)) ≤ 250000
-  pub few-steps : t .steps + 1004 * length (filter (startsFrom at) (setOf v .regions)) ≤ 502000
+  pub words : writtenFrom pairWords 4 n out (pairsFrom (setOf w .regions) a k m (setOf v .regions) at) ≡ written pairWords 4 out₀ (past m (joined (setOf w) (setOf v) a k))
+  pub total : counted all out₀ (n + length (pairsFrom (setOf w .regions) a k m (setOf v .regions) at)) ≡ counted all out₀ (length (past m (joined (setOf w) (setOf v) a k)))
+  pub few-total : n + 500 * length (filter (startsFrom at) (setOf v .regions)) ≤ 250000
+  pub stack : Behind w at at held t
 
-pub join-start : (w v : List ℕ) (a : ℕ) (k : Kind) (m : Mark) (out : List ℕ) (c : Cursor) (t : Tally) (y : ℕ) → y ≡ firstPosition a m → Faces v c (filter (startsFrom y) (setOf v .regions))
-    → t ≡ freshTally → length (setOf v .regions) ≤ 500 → Joining w v a k m out c out t
-join-start w v a k m out c t y e f g h =
-    let qs = pairsFrom (setOf w .regions) a k m (setOf v .regions) (firstPosition a m) in
-    let is = ahead-all (setOf w) (setOf v) a k m in
-    let n = filter-short (startsFrom (firstPosition a m)) (setOf v .regions) in
-    rw g
+-- it begins at the start that the cursor faces
+pub start-low : (v : List ℕ) (a : ℕ) (m : Mark) (c : Cursor) (p : ℕ) → firstPosition a m < 4294967296 → Rising (setOf v .regions) → Faces v c (filter (startsFrom (firstPosition a m)) (setOf v .regions))
+    → p ≡ startFaced (stepFrom v c) → lowest a ≤ p
+start-low v a m c p l up f e = omega (arith, position-low a m, clear-next v (firstPosition a m) p c l up f e .far)
+
+pub join-start : (w v : List ℕ) (a : ℕ) (k : Kind) (m : Mark) (all : Bool) (out : List ℕ) (c : Cursor) (held : List ℕ) (t : Stack) (n p : ℕ) → firstPosition a m < 4294967296
+    → Rising (setOf v .regions) → Faces v c (filter (startsFrom (firstPosition a m)) (setOf v .regions)) → p ≡ startFaced (stepFrom v c) → Behind w p p held t → n ≡ 0
+    → length (setOf v .regions) ≤ 500 → Joining w v a k m all out c held t out n
+join-start w v a k m all out c held t n p l up f e b z h =
+    let y = firstPosition a m in
+    let same : filter (startsFrom y) (setOf v .regions) ≡ filter (startsFrom p) (setOf v .regions) = clear-same (clear-next v y p c l up f e) in
+    let ahead = pairsFrom (setOf w .regions) a k m (setOf v .regions) in
+    let is : ahead p ≡ past m (joined (setOf w) (setOf v) a k) =
+    ap (λ ds. flatMap (pairsAt (setOf w .regions) a k m) (filter (of a) ds)) (sym same) ∙ ahead-all (setOf w) (setOf v) a k m in
+    let short = filter-short (startsFrom p) (setOf v .regions) in
+    rw z
     (record {
-      at = firstPosition a m;
-      low = position-low a m;
-      faces = rw e at f;
+      at = p;
+      low = start-low v a m c p l up f e;
+      faces = rw same at f;
       long = refl;
-      words = from-first pairWords 4 out qs ∙ ap (written pairWords 4 out) is;
-      total = omega (arith, ap length is);
+      words = from-first pairWords 4 out (ahead p) ∙ ap (written pairWords 4 out) is;
+      total = ap (counted all out) (omega (arith, ap length is));
       few-total = omega arith;
-      few-met = omega arith;
-      few-steps = omega arith;
+      stack = b;
     })
 
-module _ {w v : List ℕ} {a : ℕ} {k : Kind} {m : Mark} {out₀ : List ℕ} {c : Cursor} {out : List ℕ} {t : Tally} (j : Joining w v a k m out₀ c out t) (up : Rising (setOf v .regions)) where
+module _ {w v : List ℕ} {a : ℕ} {k : Kind} {m : Mark} {all : Bool} {out₀ : List ℕ} {c : Cursor} {held : List ℕ} {t : Stack} {out : List ℕ} {n : ℕ} (j : Joining w v a k m all out₀ c held t out n) (up : Rising (setOf v .regions)) where
   abbrev goal : List Pair
   goal = past m (joined (setOf w) (setOf v) a k)
 
   abbrev ahead : ℕ → List Pair
   ahead y = pairsFrom (setOf w .regions) a k m (setOf v .regions) y
 
-  pub join-small : Small 0 t
-  join-small = (omega (arith, j .few-total), omega (arith, j .few-met), omega (arith, j .few-steps))
+  -- what is told is what is counted
+  told-is : (r i : ℕ) → r ≡ counted all out₀ i → counted all out₀ i ≡ counted all out₀ (length goal) → r ≡ cond all (length goal) (countWritten 4 out₀ goal)
+  told-is r i e f = e ∙ f ∙ ap (λ x. cond all (length goal) x) (sym (count-is 4 out₀ goal))
 
   -- THE END: no d of the account is left
-  none-ahead : ownStep a (stepFrom v c) ≡ End → ahead (j .at) ≡ []
-  none-ahead s =
-      other a (stepFrom v c) s (λ e. ahead-none (setOf w .regions) a k m (setOf v .regions) (j .at) (faces-end v c _ (j .faces) e))
-      (λ e on p h.
-      let o = faces-on v c _ e on (j .faces) p in
-      ahead-other (setOf w .regions) a k m (setOf v .regions) (j .at) (e .region) (o .rest) (j .low) (first-from (setOf v .regions) (j .at) (e .region) (o .rest) up (o .is)) (o .is) h)
-
-  pub join-end : (all : Bool) (r : ℕ) → ownStep a (stepFrom v c) ≡ End → r ≡ cond all (t .total) (min (room 4 out₀) (t .total)) → Joined goal all out₀ out r
-  join-end all r s e =
-      let z = none-ahead s in
-      let n : t .total ≡ length goal = omega (arith, j .total, ap length z) in
+  pub join-end : (r : ℕ) → ownStep a (stepFrom v c) ≡ End → r ≡ cond all n (min (room 4 out₀) n) → Joined goal all out₀ out r
+  join-end r s e =
+      let z : ahead (j .at) ≡ [] = none-ahead w v a k m c (j .at) up (j .low) (j .faces) s in
+      let same : n ≡ n + length (ahead (j .at)) = omega (arith, ap length z) in
       record {
-        words = sym (from-none pairWords 4 (t .total) out) ∙ ap (writtenFrom pairWords 4 (t .total) out) (sym z) ∙ j .words;
-        total = e ∙ rw (n, count-is 4 out₀ goal);
+        words = sym (from-none pairWords 4 n out) ∙ ap (writtenFrom pairWords 4 n out) (sym z) ∙ j .words;
+        total = told-is r n e (ap (counted all out₀) same ∙ j .total);
       }
 
   -- THE SLICE IS FULL, and no more are asked for
-  pub join-full : (all more : Bool) (r : ℕ) → more ≡ (all || ltb (t .total) (room 4 out₀)) → more ≡ false → r ≡ cond all (t .total) (min (room 4 out₀) (t .total)) → Joined goal all out₀ out r
-  join-full true more r f h e = absurd (false≢true (sym h ∙ f))
-  join-full false more r f h e =
-      let l : room 4 out₀ ≤ t .total = nlt-of (t .total) (room 4 out₀) (sym f ∙ h) in
+  pub join-full : (more : Bool) (r : ℕ) → more ≡ (all || ltb n (room 4 out₀)) → more ≡ false → r ≡ cond all n (min (room 4 out₀) n) → Joined goal all out₀ out r
+  join-full more r f h e =
+      let l : (all ≡ false) × (room 4 out₀ ≤ n) = full all (sym f ∙ h) in
       let s : room 4 out ≡ room 4 out₀ = omega (arith, j .long) in
       record {
-        words = sym (from-full pairWords 4 (t .total) out (ahead (j .at)) (omega arith)) ∙ j .words;
-        total = omega (arith, count-is 4 out₀ goal, j .total);
+        words = sym (from-full pairWords 4 n out (ahead (j .at)) (omega arith)) ∙ j .words;
+        total = told-is r n e (both (l .0) (l .1) ∙ j .total);
       }
+    where
+      full : (b : Bool) → (b || ltb n (room 4 out₀)) ≡ false → (b ≡ false) × (room 4 out₀ ≤ n)
+      full true p = absurd (false≢true (sym p))
+      full false p = (refl, nlt-of n (room 4 out₀) p)
 
-  -- A TURN
-  module _ (e : Entry) (on : Cursor) (out′ : List ℕ) (t′ : Tally) (met : Bool) (r : Cursor) (s : ownStep a (stepFrom v c) ≡ Next e on) (g : Turned (setOf w) (e .region) k m out t out′ t′)
-      (b : met ≡ ltb (t .met) (t′ .met)) (go : Moved (setOf w .regions) v (e .region .start) on met r) where
+      both : all ≡ false → room 4 out₀ ≤ n → counted all out₀ n ≡ counted all out₀ (n + length (ahead (j .at)))
+      both p l = rw p (omega arith)
+
+  -- A TURN: to d, where the stack has its place
+  module _ (e : Entry) (on : Cursor) (s : ownStep a (stepFrom v c) ≡ Next e on) where
     on-from : Onward v (filter (startsFrom (j .at)) (setOf v .regions)) e on
     on-from = faces-on v c _ e on (j .faces) (own-next a (stepFrom v c) e on s .0)
 
     first : First (setOf v .regions) (j .at) (e .region) (on-from .rest)
     first = first-from (setOf v .regions) (j .at) (e .region) (on-from .rest) up (on-from .is)
 
+    pub join-behind : Behind w (e .region .start) (e .region .start) held t
+    join-behind = behind-later (first .low) (first .low) (j .stack)
+
+    pub join-onward : Faces v on (filter (startsFrom (suc (e .region .start))) (setOf v .regions))
+    join-onward = subst (λ (l : List Region). Faces v on l) (first .others) (on-from .faces)
+
+  pub join-small : n ≤ 250000
+  join-small = omega (arith, j .few-total)
+
+  -- and its pairs, and on
+  module _ (e : Entry) (on : Cursor) (s : ownStep a (stepFrom v c) ≡ Next e on) (held′ : List ℕ) (t′ : Stack) (out′ : List ℕ) (n′ : ℕ) (r : Cursor)
+      (p : Placed w (e .region .start) (e .region .start) held′ t′) (g : PairedUp (stacked held′ (t′ .n)) k m (e .region) all out n out′ n′)
+      (go : Moved (setOf w .regions) v (e .region .start) on (ltb 0 (t′ .n)) r) where
     -- where the next d is looked for
     pub record Looked : Type 0 where
       pub at : ℕ
@@ -145,8 +190,9 @@ module _ {w v : List ℕ} {a : ℕ} {k : Kind} {m : Mark} {out₀ : List ℕ} {c
       pub faces : Faces v r (filter (startsFrom at) (setOf v .regions))
       pub same : ahead (suc (e .region .start)) ≡ ahead at
 
-    none-met : met ≡ false → filter (holds (e .region .start)) (setOf w .regions) ≡ []
-    none-met h = empty (ancestors (e .region .start) (setOf w)) (omega (arith, g .met, nlt-of (t .met) (t′ .met) (sym b ∙ h)))
+    none-met : ltb 0 (t′ .n) ≡ false → filter (holds (e .region .start)) (setOf w .regions) ≡ []
+    none-met h =
+        sym (p .stack ∙ upto-strict (e .region .start) (setOf w .regions)) ∙ empty (stacked held′ (t′ .n)) (omega (arith, stacked-long held′ (t′ .n), nlt-of 0 (t′ .n) h))
       where
         empty : (xs : List Region) → length xs ≡ 0 → xs ≡ []
         empty [] z = refl
@@ -154,11 +200,11 @@ module _ {w v : List ℕ} {a : ℕ} {k : Kind} {m : Mark} {out₀ : List ℕ} {c
 
     next : Looked
     next =
-        by-test met
+        by-test (ltb 0 (t′ .n))
         (λ h. record {
           at = suc (e .region .start);
           far = omega arith;
-          faces = rw (go .kept h) (subst (λ (l : List Region). Faces v on l) (first .others) (on-from .faces));
+          faces = rw (go .kept h) (join-onward e on s);
           same = refl;
         })
         (λ h.
@@ -172,33 +218,33 @@ module _ {w v : List ℕ} {a : ℕ} {k : Kind} {m : Mark} {out₀ : List ℕ} {c
 
     fewer : suc (length (filter (startsFrom (next .at)) (setOf v .regions))) ≤ length (filter (startsFrom (j .at)) (setOf v .regions))
     fewer =
-        omega (arith, ap length (on-from .is), ap length (first .others), from-fewer (suc (e .region .start)) (next .at) (setOf v .regions) (next .far))
+        omega (arith, ap length (on-from e on s .is), ap length (first e on s .others), from-fewer (suc (e .region .start)) (next .at) (setOf v .regions) (next .far))
 
     pub join-less : length (left v r) < length (left v c)
     join-less = omega (arith, faces-long v (next .faces), faces-long v (j .faces), fewer)
 
-    pub join-on : Sound (setOf w) → length (setOf w .regions) ≤ 500 → Joining w v a k m out₀ r out′ t′
-    join-on x n =
+    pub join-on : Sound (setOf w) → length (setOf w .regions) ≤ 500 → Joining w v a k m all out₀ r held′ t′ out′ n′
+    join-on x few =
         let d = e .region in
         let h = own-next a (stepFrom v c) e on s .1 in
+        let is = first e on s in
         let qs = past m (pairsOf k (setOf w .regions) d) in
         let split : ahead (j .at) ≡ qs ++ ahead (next .at) =
-        ahead-own (setOf w .regions) a k m (setOf v .regions) (j .at) d (on-from .rest) first (on-from .is) h
+        ahead-own (setOf w .regions) a k m (setOf v .regions) (j .at) d (on-from e on s .rest) is (on-from e on s .is) h
         ∙ ap (λ l. l ++ ahead (suc (d .start))) (pairs-own (setOf w .regions) a k m d h (x .formed)) ∙ ap (λ l. qs ++ l) (next .same) in
-        let few = pairs-few m k (setOf w .regions) d in
-        let anc = filter-short (holds (d .start)) (setOf w .regions) in
+        let both = paired-whole g qs (placed-pairs w held′ t′ k m d p) (ahead (next .at)) in
+        let alike : ((i : ℕ) → counted all out₀ i ≡ counted all out i) = (λ i. ap (λ l. cond all i (min (l / 4) i)) (sym (j .long))) in
         record {
           at = next .at;
-          low = omega (arith, j .low, first .low, next .far);
+          low = omega (arith, j .low, is .low, next .far);
           faces = next .faces;
-          long = ap length (g .words) ∙ from-long pairWords 4 (t .total) out qs ∙ j .long;
-          words =
-              ap₂ (λ n l. writtenFrom pairWords 4 n l (ahead (next .at))) (g .total) (g .words)
-              ∙ sym (from-append pairWords 4 (λ q. refl) (t .total) out qs (ahead (next .at))) ∙ ap (writtenFrom pairWords 4 (t .total) out) (sym split) ∙ j .words;
-          total = omega (arith, g .total, j .total, ap length split, length-append qs (ahead (next .at)));
-          few-total = omega (arith, g .total, j .few-total, fewer);
-          few-met = omega (arith, g .met, j .few-met, fewer);
-          few-steps = omega (arith, g .steps, j .few-steps, fewer);
+          long = paired-long g ∙ j .long;
+          words = both .0 ∙ ap (writtenFrom pairWords 4 n out) (sym split) ∙ j .words;
+          total =
+              alike (n′ + length (ahead (next .at))) ∙ both .1 ∙ sym (alike (n + length (qs ++ ahead (next .at))))
+              ∙ ap (λ (l : List Pair). counted all out₀ (n + length l)) (sym split) ∙ j .total;
+          few-total = omega (arith, g .few, stacked-long held′ (t′ .n), placed-few p few, j .few-total, fewer);
+          stack = behind-later (omega (arith, next .far)) (omega (arith, next .far)) (placed-behind (omega arith) p);
         }
 
 -- THE WHOLE JOIN: past no mark, all told

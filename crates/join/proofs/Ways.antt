@@ -1,41 +1,33 @@
 -- Each way in which the join's small functions come to their answers, as the definitions have it.
 -- Assumes nothing.
-use Prim.Native.Nat.{ℕ, suc, _-_, _<_, _≤_, min}
-use mathlib.Core.Path.{_≡_, refl, sym, ap, _∙_}
-use mathlib.Core.Bool.{Bool, true, false, cond, _||_, true≢false}
+use Prim.Native.Nat.{ℕ, suc, _<_, _≤_, min}
+use mathlib.Core.Path.{_≡_, refl, sym, _∙_, subst}
+use mathlib.Core.Bool.{Bool, false, cond, _||_, true≢false}
 use mathlib.Core.List.{List, [], _∷_}
-use lib.Dec.{T, ltb}
-use lib.ListN.{length, getD, length-map}
+use lib.Dec.{ltb}
 use native.Mathlib.Omega.{arith}
-use Rattle.words.specs.Lists.{filter, dropWhile, All}
-use Rattle.words.proofs.Tests.{by-test, eq-yes, eq-no}
+use Rattle.words.specs.Lists.{filter, All}
+use Rattle.words.proofs.Tests.{by-test, eq-yes, eq-no, lt-yes, lt-no}
+use Rattle.words.proofs.Listed.{all-mono, filter-same}
+use Rattle.words.proofs.Says.{says-same, says-iff}
 use Rattle.regions.specs.Positions.{account}
-use Rattle.regions.specs.Sets.{of}
-use Rattle.regions.specs.Calls.{ancestors, pairOf, pairWords}
+use Rattle.regions.specs.Sets.{of, startsFrom}
 use Rattle.regions.specs.declared.Region.{Region}
 use Rattle.regions.specs.declared.Mark.{Mark}
 use Rattle.regions.specs.declared.Mark.the-variants.{Fresh, Last}
 use Rattle.regions.proofs.Extra.{false-so}
+use Rattle.regions.proofs.Means.{from-says}
 use Rattle.regions.specs.Sound.{Rising}
-use Rattle.image.specs.Read.{depthOf, treeOf, setOf}
-use Rattle.image.specs.Valid.{valid}
-use Rattle.xrtree.specs.Search.{steps}
-use Rattle.answers.specs.Items.{writtenFrom}
+use Rattle.image.specs.Read.{setOf}
 use Rattle.leaves.specs.declared.Entry.{Entry}
 use Rattle.leaves.specs.declared.Cursor.{Cursor}
 use Rattle.leaves.specs.declared.Step.{Step}
 use Rattle.leaves.specs.declared.Step.the-variants.{Next, End}
-use Rattle.leaves.specs.Cursors.{entriesOf, startsUpTo, Stands, stepFrom}
-use Rattle.search.specs.declared.Pairing.{Pairing}
-use Rattle.search.specs.declared.Task.the-variants.{Pair}
-use Rattle.search.specs.declared.Tally.{Tally}
-use Rattle.search.specs.Tallies.{Tallied, taken}
-use Rattle.search.proofs.Right.{steps-bound}
-use Rattle.search.proofs.Tops.{pair-words, pairs-past}
-use Rattle.inward.specs.Faces.{Faces}
-use Rattle.inward.proofs.Faces.{faces-on, faces-end, faces-behind, faces-all}
-use Rattle.join.specs.Joins.{lowest, firstPosition, startsFrom, ownStep, Clear, Moved, Turned}
-use Rattle.join.proofs.Ahead.{from-says, from-all, from-behind, first-from}
+use Rattle.leaves.specs.Cursors.{stepFrom, startFaced}
+use Rattle.leaves.specs.Faces.{Faces}
+use Rattle.leaves.proofs.Faces.{faces-on, faces-end, faced-is}
+use Rattle.stack.proofs.Stacks.{come-same, First, first-from}
+use Rattle.join.specs.Joins.{lowest, firstPosition, ownStep, Before, Clear, Moved}
 
 -- WHERE THE JOIN BEGINS
 pub position-fresh : (a : ℕ) (m : Mark) → m ≡ Fresh → lowest a ≡ firstPosition a m
@@ -50,13 +42,6 @@ pub position-marked : (a x y : ℕ) (m : Mark) → m ≡ Last x y → lowest a �
 unfolding firstPosition
 position-marked a x y m e l = rw e (omega arith)
 
--- CURSORS
-pub at-first : (w : List ℕ) (y : ℕ) (c : Cursor) → y ≡ 0 → Stands w c (entriesOf w) → Faces w c (filter (startsFrom y) (setOf w .regions))
-at-first w y c e s = rw (e, from-all (setOf w .regions)) (faces-all w s)
-
-pub at-behind : (w : List ℕ) (x y : ℕ) (c : Cursor) → T (valid w) → y ≡ suc x → Stands w c (dropWhile (startsUpTo x) (entriesOf w)) → Faces w c (filter (startsFrom y) (setOf w .regions))
-at-behind w x y c v e s = rw (← from-behind x y (setOf w .regions) e) (faces-behind w x v s)
-
 -- A STEP OF THE ACCOUNT
 pub own-end : (a : ℕ) (s : Step) → s ≡ End → End ≡ ownStep a s
 unfolding ownStep
@@ -70,6 +55,12 @@ pub own-one : (a b : ℕ) (s : Step) (e : Entry) (on : Cursor) → s ≡ Next e 
 unfolding ownStep of
 own-one a b s e on p q n = rw (p, eq-yes (account (e .region .start)) a (sym q ∙ n))
 
+-- the start that is faced is of another account: it is no step of this one
+pub foreign-end : (a : ℕ) (s : Step) → (account (startFaced s) ≡ a → ⊥) → ownStep a s ≡ End
+unfolding ownStep startFaced of
+foreign-end a End n = refl
+foreign-end a (Next e on) n = rw (eq-no (account (e .region .start)) a n)
+
 -- THE NEXT START of the outer set
 all-from : (p q : ℕ) (xs : List Region) → All (λ (r : Region). q ≤ r .start) (filter (startsFrom p) xs) → All (λ (r : Region). p ≤ r .start → q ≤ r .start) xs
 unfolding filter
@@ -82,37 +73,59 @@ all-from p q (x ∷ xs) k =
 clear-from : (rs : List Region) (p q : ℕ) → p ≤ q → All (λ (r : Region). q ≤ r .start) (filter (startsFrom p) rs) → Clear rs p q
 clear-from rs p q l h = record { far = l; none = all-from p q rs h }
 
-pub start-none : (w : List ℕ) (p q : ℕ) (c : Cursor) → p ≤ q → Faces w c (filter (startsFrom p) (setOf w .regions)) → stepFrom w c ≡ End → Clear (setOf w .regions) p q
-start-none w p q c l f s = clear-from (setOf w .regions) p q l (rw (faces-end w c _ f s) tt)
+pub clear-next : (w : List ℕ) (p q : ℕ) (c : Cursor) → p < 4294967296 → Rising (setOf w .regions) → Faces w c (filter (startsFrom p) (setOf w .regions)) → q ≡ startFaced (stepFrom w c)
+    → Clear (setOf w .regions) p q
+unfolding startFaced
+clear-next w p q c l up f g = go (stepFrom w c) refl g
+  where
+    go : (s : Step) → stepFrom w c ≡ s → q ≡ startFaced s → Clear (setOf w .regions) p q
+    go End s k = clear-from (setOf w .regions) p q (omega arith) (rw (faces-end w c _ f s) tt)
+    go (Next e on) s k =
+        let o = faces-on w c _ e on f s in
+        let m = first-from (setOf w .regions) p (e .region) (o .rest) up (o .is) in
+        clear-from (setOf w .regions) p q (omega (arith, m .low)) (rw (o .is, k) (m .least))
 
-pub start-next : (w : List ℕ) (p : ℕ) (c : Cursor) (e : Entry) (on : Cursor) → Rising (setOf w .regions) → Faces w c (filter (startsFrom p) (setOf w .regions)) → stepFrom w c ≡ Next e on
-    → Clear (setOf w .regions) p (e .region .start)
-start-next w p c e on up f s =
-    let o = faces-on w c _ e on f s in
-    let k = first-from (setOf w .regions) p (e .region) (o .rest) up (o .is) in
-    clear-from (setOf w .regions) p (e .region .start) (k .low) (rw (o .is) (k .behind))
+-- the regions from either end on are the same
+pub clear-same : {rs : List Region} {p q : ℕ} → Clear rs p q → filter (startsFrom p) rs ≡ filter (startsFrom q) rs
+clear-same {rs} {p} {q} k =
+    filter-same (startsFrom p) (startsFrom q) rs
+    (all-mono (λ r n. says-same (from-says p r) (says-iff (from-says q r) (λ h. omega (arith, k .far)) (λ h. n h))) rs (k .none))
+
+-- THE INNER CURSOR forward, past x
+module _ {w : List ℕ} {x : ℕ} {c : Cursor} (b : Before w (suc x) c) (up : Rising (setOf w .regions)) where
+  passed : All (λ (r : Region). suc x ≤ r .start) (filter (startsFrom (b .at)) (setOf w .regions)) → Faces w c (filter (startsFrom (suc x)) (setOf w .regions))
+  passed h = subst (λ (l : List Region). Faces w c l) (come-same (b .at) (suc x) 0 (setOf w .regions) up (b .far) h) (b .faces)
+
+  pub forward-end : stepFrom w c ≡ End → Faces w c (filter (startsFrom (suc x)) (setOf w .regions))
+  forward-end s = passed (rw (faces-end w c _ (b .faces) s) tt)
+
+  module _ (e : Entry) (on : Cursor) (s : stepFrom w c ≡ Next e on) where
+    first : First (setOf w .regions) (b .at) (e .region) (faces-on w c _ e on (b .faces) s .rest)
+    first = first-from (setOf w .regions) (b .at) (e .region) _ up (faces-on w c _ e on (b .faces) s .is)
+
+    forward-stop : x < e .region .start → Faces w c (filter (startsFrom (suc x)) (setOf w .regions))
+    forward-stop l = passed (rw (faces-on w c _ e on (b .faces) s .is) (all-mono {Q = λ r. suc x ≤ r .start} (λ r m. omega arith) (e .region ∷ faces-on w c _ e on (b .faces) s .rest) (first .least)))
+
+    pub forward-on : e .region .start ≤ x → Before w (suc x) on
+    forward-on l = record { at = suc (e .region .start); far = omega arith; faces = subst (λ (l : List Region). Faces w on l) (first .others) (faces-on w c _ e on (b .faces) s .faces) }
+
+  pub forward-there : x < startFaced (stepFrom w c) → Faces w c (filter (startsFrom (suc x)) (setOf w .regions))
+  forward-there l = go (stepFrom w c) refl
+    where
+      go : (s : Step) → stepFrom w c ≡ s → Faces w c (filter (startsFrom (suc x)) (setOf w .regions))
+      go End s = forward-end s
+      go (Next e on) s = forward-stop e on s (omega (arith, faced-is (stepFrom w c) e on s))
 
 -- THE NEXT d
-pub moved-on : (rs : List Region) (w : List ℕ) (p : ℕ) (on : Cursor) (met : Bool) → met ≡ true → Moved rs w p on met on
-moved-on rs w p on met h = record { kept = λ e. refl; skipped = λ e. absurd (true≢false (sym h ∙ e)) }
+pub moved-before : (w : List ℕ) (p q : ℕ) {c : Cursor} → p ≤ q → Faces w c (filter (startsFrom (suc p)) (setOf w .regions)) → Before w (suc q) c
+moved-before w p q l f = record { at = suc p; far = omega arith; faces = f }
 
-pub moved-past : (rs : List Region) (w : List ℕ) (p q : ℕ) (on : Cursor) (met : Bool) (c : Cursor) → met ≡ false → T (valid w) → Clear rs p q → Stands w c (dropWhile (startsUpTo q) (entriesOf w))
-    → Moved rs w p on met c
-moved-past rs w p q on met c h v k s =
-    record { kept = λ e. absurd (true≢false (sym e ∙ h)); skipped = λ e. record { reach = q; clear = k; faces = at-behind w q (suc q) c v refl s } }
+pub moved-on : (rs : List Region) (w : List ℕ) (p n : ℕ) (on : Cursor) → 0 < n → Moved rs w p on (ltb 0 n) on
+moved-on rs w p n on l = record { kept = λ e. refl; skipped = λ e. absurd (true≢false (sym (lt-yes 0 n l) ∙ e)) }
 
--- ONE d
-pub turned : (w : List ℕ) (q : Pairing) {out out′ : List ℕ} {t t′ : Tally} → ((i : ℕ) → getD w i 0 < 4294967296) → T (valid w) → q .d .start < 4294967296
-    → Tallied (Pair q) out t (ancestors (q .d .start) (setOf w)) (steps (depthOf w) (q .d .start) (treeOf w)) out′ t′ → Turned (setOf w) (q .d) (q .kind) (q .mark) out t out′ t′
-turned w q {out} {out′} {t} {t′} small v l r =
-    let d = q .d in
-    let is = pairs-past q (setOf w) in
-    record {
-      words = r .words ∙ pair-words q (t .total) out (taken (Pair q) (ancestors (d .start) (setOf w))) ∙ ap (writtenFrom pairWords 4 (t .total) out) is;
-      total = omega (arith, r .total, ap length is, length-map (taken (Pair q) (ancestors (d .start) (setOf w))) (pairOf d));
-      met = r .met;
-      steps = omega (arith, r .steps, steps-bound w small (d .start) l v);
-    }
+pub moved-past : (rs : List Region) (w : List ℕ) (p q n : ℕ) (on c : Cursor) → n ≤ 0 → Clear rs p q → Faces w c (filter (startsFrom (suc q)) (setOf w .regions)) → Moved rs w p on (ltb 0 n) c
+moved-past rs w p q n on c l k s =
+    record { kept = λ e. absurd (true≢false (sym e ∙ lt-no 0 n l)); skipped = λ e. record { reach = q; clear = k; faces = s } }
 
 -- MORE OR NOT, AND WHAT IS TOLD
 pub more-room : (all : Bool) (n m : ℕ) → all ≡ false → ltb n m ≡ (all || ltb n m)

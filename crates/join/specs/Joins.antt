@@ -1,26 +1,21 @@
--- What the join answers, and what its steps do: where it begins, a d's pairs, and how it comes to the next d.
+-- What the join answers, and what its steps do: where it begins, and how it comes to the next d.
 -- Assumes nothing.
-use Prim.Native.Nat.{ℕ, suc, _+_, _*_, _≤_, max}
+use Prim.Native.Nat.{ℕ, suc, _*_, _≤_, max}
 use mathlib.Core.Path.{_≡_}
 use mathlib.Core.Bool.{Bool, true, false, cond}
 use mathlib.Core.List.{List}
-use lib.Dec.{leb}
 use lib.ListN.{length}
 use Rattle.words.specs.Lists.{filter, All}
-use Rattle.regions.specs.Sets.{Set, of}
-use Rattle.regions.specs.Calls.{Pair, written, countWritten, ancestors, pairsOf, pairWords, pairWidth}
-use Rattle.regions.specs.Desk.{past}
+use Rattle.regions.specs.Sets.{of, startsFrom}
+use Rattle.regions.specs.Calls.{Pair, written, countWritten, pairWords, pairWidth}
 use Rattle.regions.specs.declared.Region.{Region}
-use Rattle.regions.specs.declared.Kind.{Kind}
 use Rattle.regions.specs.declared.Mark.{Mark}
 use Rattle.regions.specs.declared.Mark.the-variants.{Fresh, Last}
 use Rattle.image.specs.Read.{setOf}
-use Rattle.answers.specs.Items.{writtenFrom}
 use Rattle.leaves.specs.declared.Cursor.{Cursor}
 use Rattle.leaves.specs.declared.Step.{Step}
 use Rattle.leaves.specs.declared.Step.the-variants.{Next, End}
-use Rattle.search.specs.declared.Tally.{Tally}
-use Rattle.inward.specs.Faces.{Faces}
+use Rattle.leaves.specs.Faces.{Faces}
 
 -- WHERE IT BEGINS: at the account's first position, or at the marked d where that comes later
 abbrev pub lowest : ℕ → ℕ
@@ -30,21 +25,16 @@ unfoldable pub firstPosition : ℕ → Mark → ℕ
 firstPosition a Fresh = lowest a
 firstPosition a (Last x y) = max (lowest a) y
 
--- a region that starts at y or behind it
-unfoldable pub startsFrom : ℕ → Region → Bool
-startsFrom y r = leb y (r .start)
-
 -- a step to a region of the account; to that of another it is the end
 unfoldable pub ownStep : ℕ → Step → Step
 ownStep a End = End
 ownStep a (Next e c) = cond (of a (e .region)) (Next e c) End
 
--- ONE d: its pairs past the mark are written and counted, all its ancestors are met, the steps are few
-pub record Turned (X : Set) (d : Region) (k : Kind) (m : Mark) (out : List ℕ) (t : Tally) (out′ : List ℕ) (t′ : Tally) : Type 0 where
-  pub words : out′ ≡ writtenFrom pairWords pairWidth (t .total) out (past m (pairsOf k (X .regions) d))
-  pub total : t′ .total ≡ t .total + length (past m (pairsOf k (X .regions) d))
-  pub met : t′ .met ≡ t .met + length (ancestors (d .start) X)
-  pub steps : t′ .steps ≤ t .steps + (4 + 2 * length (ancestors (d .start) X))
+-- a cursor at a place that is not behind y
+pub record Before (w : List ℕ) (y : ℕ) (c : Cursor) : Type 0 where
+  pub at : ℕ
+  pub far : at ≤ y
+  pub faces : Faces w c (filter (startsFrom at) (setOf w .regions))
 
 -- THE NEXT d. No region starts at p or behind it and before q
 pub record Clear (rs : List Region) (p q : ℕ) : Type 0 where

@@ -1,35 +1,39 @@
--- The cursors that `first` and `seek` answer: in a valid image the leaves' links name all leaves of the tree in order, and what starts at x or before stands left of what starts behind it.
+-- The cursors that a seek answers: in a valid image the leaves' links name all leaves of the tree in order, and what starts before a position stands left of what starts at it or
+-- behind it.
 -- Assumes nothing.
 use Prim.Native.Nat.{ℕ, zero, suc, _+_, _≤_, _<_}
 use mathlib.Core.Path.{_≡_, refl, sym, ap, _∙_, subst}
-use mathlib.Core.Bool.{Bool, not, cond}
+use mathlib.Core.Bool.{Bool, true, false, cond}
 use mathlib.Core.List.{List, [], _∷_, _++_, map, flatMap}
-use lib.Dec.{T, leb, ltb, eqb, le→leb, leb→le, nleb→lt}
+use lib.Dec.{T, eqb}
 use lib.ListN.{length, drop, length-append}
 use native.Mathlib.Omega.{arith}
-use Rattle.words.specs.Lists.{filter, takeWhile, dropWhile, all, allPairs, count, All, Pairs}
-use Rattle.words.proofs.Tests.{by-test, and-left, and-right, eq-of, ne-of, le-yes, le-no, T-off}
-use Rattle.words.proofs.Listed.{all-mono, all-right, pairs-mono, rests, filter-both, flat-append, map-append}
-use Rattle.words.proofs.Says.{Says, and-says, eq-says, lt-says, le-says, all-says, pairs-say}
+use Rattle.words.specs.Lists.{filter, takeWhile, dropWhile, all, count, All, Pairs}
+use Rattle.words.proofs.Tests.{by-test, and-left, and-right, eq-of, ne-of, lt-yes, lt-no}
+use Rattle.words.proofs.Listed.{all-mono, all-right, flat-append, map-append}
+use Rattle.words.proofs.Says.{and-says, eq-says, le-says, all-says}
 use Rattle.words.proofs.Counted.{sum-le, sum-count, sum-at-most, one-at-most}
-use Rattle.regions.specs.Sets.{startsBehind}
-use Rattle.regions.specs.declared.Region.{Region}
-use Rattle.xrtree.specs.Tree.{Entry, Leaf, regionOf, regions, leaves, listItems, pagePlaces}
-use Rattle.xrtree.specs.Rules.{within, filled, firstPlace, linked, startsFirst, rule1, rule2, rule6, onceOrFree, placed}
+use Rattle.regions.specs.Sets.{startsBefore, startsFrom}
+use Rattle.regions.proofs.Rising.{from-rests}
+use Rattle.xrtree.specs.Tree.{Leaf, regionOf, leaves, listItems, pagePlaces}
+use Rattle.xrtree.specs.Rules.{within, filled, firstPlace, linked, rule1, rule2, rule6, onceOrFree, placed}
 use Rattle.xrtree.proofs.Order.{Apart, rule2-says}
 use Rattle.pages.specs.Layout.{pageCount, rootOf, pageOf, fillOf, nextOf, pageUsed}
 use Rattle.image.specs.Read.{depthOf, treeOf, setOf}
 use Rattle.image.specs.Fills.{Fills, rootLeast}
 use Rattle.image.specs.Valid.{sized, rule7, treeRules, valid}
 use Rattle.image.proofs.Fills.{valid-fills}
+use Rattle.image.proofs.Sound.{set-rises}
 use Rattle.image.proofs.Listings.{leafAt, listedAt}
 use Rattle.path.specs.Path.{downTo}
-use Rattle.leaves.specs.Cursors.{entriesOf, entriesIn, startsUpTo, entryRank, leavesAt, Chain, left, Stands, atEnd, firstLeaf}
+use Rattle.leaves.specs.declared.Cursor.{Cursor}
+use Rattle.leaves.specs.Cursors.{entriesOf, entriesIn, boundAt, startsBelow, entryRank, leavesAt, Chain, left, Stands}
 use Rattle.leaves.specs.Cursors.Chain.{done, link}
+use Rattle.leaves.specs.Faces.{Faces}
 use Rattle.leaves.proofs.Whiles.{drop-while-past, drop-while-none, drop-while-in, drop-while-out, drop-while-map}
-use Rattle.leaves.proofs.Rows.{listPlaces, Full, leaves-read, entries-read, regions-read, places-among, few-leaves, full-behind, alone}
-use Rattle.leaves.proofs.Parts.{Parted, parted, headed}
-use Rattle.leaves.proofs.Walks.{chain-read, chain-on, ready-end, left-end, entries-in-long}
+use Rattle.leaves.proofs.Rows.{listPlaces, Full, leaves-read, entries-read, regions-read, places-among, few-leaves, full-behind}
+use Rattle.leaves.proofs.Parts.{Parted, parted}
+use Rattle.leaves.proofs.Walks.{chain-read, chain-on, entries-in-long}
 
 -- RULE 7: places that are listed once or free are no more than there are
 once-few : (used : ℕ → Bool) (n : ℕ) (ps : List ℕ) → T (onceOrFree used n ps) → (i : ℕ) → 1 ≤ i → i ≤ n → count i ps ≤ 1
@@ -56,7 +60,6 @@ placesOf w = listedAt listPlaces w (depthOf w) (rootOf w)
 pub record Row (w : List ℕ) : Type 0 where
   pub links : T (linked (map (leafAt w) (placesOf w)))
   pub apart : Pairs Apart (listedAt listItems w (depthOf w) (rootOf w))
-  pub rising : T (allPairs startsFirst (regions (depthOf w) (treeOf w)))
   pub low : All (λ q. 1 ≤ q) (placesOf w)
   pub few : length (placesOf w) ≤ pageCount
   pub fills : Fills (depthOf w) w (rootOf w)
@@ -74,7 +77,6 @@ row w t =
     record {
       links = rw (leaves-read w h (rootOf w)) at (and-left (linked (leaves h (treeOf w))) _ first);
       apart = rule2-says h (treeOf w) .yes-so (and-left (rule2 h (treeOf w)) _ (and-right (rule1 h (treeOf w)) _ trees));
-      rising = and-right (linked (leaves h (treeOf w))) _ first;
       low = among .0 (all-mono (λ q a. a .0) (pagePlaces h (treeOf w)) (f .0));
       few = omega (arith, among .1, f .1);
       fills = valid-fills w t;
@@ -85,6 +87,11 @@ linked-right : (xs ys : List Leaf) → T (linked (xs ++ ys)) → T (linked ys)
 unfolding linked
 linked-right [] ys t = t
 linked-right (x ∷ xs) ys t = linked-right xs ys (and-right (eqb (x .next) (firstPlace (xs ++ ys))) _ t)
+
+-- the bound of a position is the position or the next one
+bound-near : (own : Bool) (x : ℕ) → (x ≤ boundAt own x) × (boundAt own x ≤ suc x)
+bound-near true x = omega arith
+bound-near false x = omega arith
 
 module _ (w : List ℕ) where
   chain-of : (qs : List ℕ) → T (linked (map (leafAt w) qs)) → All (λ q. 1 ≤ q) qs → All (Full w) qs → Chain w (firstPlace (map (leafAt w) qs)) qs
@@ -145,35 +152,11 @@ module _ (w : List ℕ) where
       }
 
   module _ (t : T (valid w)) where
-    -- FIRST
-    first-leafy : Leafy [] (firstLeaf (depthOf w) w (rootOf w)) (headed w (depthOf w) (rootOf w) .rest)
-    first-leafy = leafy (row w t) [] (firstLeaf (depthOf w) w (rootOf w)) (headed w (depthOf w) (rootOf w) .rest) (headed w (depthOf w) (rootOf w) .is)
+    -- SEEK: in the leaf where x belongs stands the first entry that does not start before x, or before the place behind it, if it is not the next leaf's first
+    module _ (own : Bool) (x : ℕ) where
+      abbrev y : ℕ
+      y = boundAt own x
 
-    pub first-some : (q n : ℕ) → q ≡ firstLeaf (depthOf w) w (rootOf w) → n ≡ fillOf (pageOf w q) → (n ≡ 0 → ⊥) → Stands w (record { leaf = q; at = 0 }) (entriesOf w)
-    unfolding flatMap
-    first-some q n e f z =
-        let y = headed w (depthOf w) (rootOf w) .rest in
-        let l : Leafy [] q y = rw e first-leafy in
-        rw (l .entries) (stands-in [] q 0 y l (omega arith))
-
-    pub first-none : (q n : ℕ) → q ≡ firstLeaf (depthOf w) w (rootOf w) → n ≡ fillOf (pageOf w q) → n ≡ 0 → Stands w atEnd (entriesOf w)
-    unfolding flatMap
-    first-none q n e f z =
-        let y = headed w (depthOf w) (rootOf w) .rest in
-        let l : Leafy [] q y = rw e first-leafy in
-        let is : placesOf w ≡ q ∷ y = rw e (headed w (depthOf w) (rootOf w) .is) in
-        let none : y ≡ [] = alone w (rootLeast (depthOf w)) (depthOf w) (rootOf w) (row w t .fills) q y is (omega arith) in
-        record {
-          ready = ready-end w;
-          ahead = left-end w atEnd refl ∙ sym (l .entries ∙ ap (λ ps. entriesIn w q ++ flatMap (entriesIn w) ps) none ∙ ap (_++ []) (empty (entriesIn w q) (entries-in-long w q ∙ omega arith)));
-        }
-      where
-        empty : (es : List Entry) → length es ≡ 0 → es ≡ []
-        empty [] h = refl
-        empty (x ∷ xs) h = absurd (omega arith)
-
-    -- SEEK
-    module _ (x : ℕ) where
       abbrev spot : ℕ
       spot = downTo (depthOf w) w x (rootOf w)
 
@@ -187,56 +170,53 @@ module _ (w : List ℕ) where
       pub seek-few : (q : ℕ) → q ≡ spot → fillOf (pageOf w q) ≤ 8
       seek-few q e = rw e (seek-leafy .few)
 
-      past : dropWhile (startsUpTo x) (entriesOf w) ≡ dropWhile (startsUpTo x) (entriesIn w spot ++ flatMap (entriesIn w) (sides .behind))
+      past : dropWhile (startsBelow y) (entriesOf w) ≡ dropWhile (startsBelow y) (entriesIn w spot ++ flatMap (entriesIn w) (sides .behind))
       past =
-          ap (dropWhile (startsUpTo x)) (seek-leafy .entries)
-          ∙ drop-while-past (startsUpTo x) (flatMap (entriesIn w) (sides .before)) (entriesIn w spot ++ flatMap (entriesIn w) (sides .behind))
-          (all-mono (λ e a. le-yes (e .region .start) x a) (flatMap (entriesIn w) (sides .before)) (sides .low))
+          ap (dropWhile (startsBelow y)) (seek-leafy .entries)
+          ∙ drop-while-past (startsBelow y) (flatMap (entriesIn w) (sides .before)) (entriesIn w spot ++ flatMap (entriesIn w) (sides .behind))
+          (all-mono (λ e a. lt-yes (e .region .start) y (omega (arith, bound-near own x))) (flatMap (entriesIn w) (sides .before)) (sides .low))
 
-      pub seek-in : (q r n : ℕ) → q ≡ spot → r ≡ entryRank w q x → n ≡ fillOf (pageOf w q) → r < n
-          → Stands w (record { leaf = q; at = r }) (dropWhile (startsUpTo x) (entriesOf w))
+      seek-in : (q r n : ℕ) → q ≡ spot → r ≡ entryRank w q y → n ≡ fillOf (pageOf w q) → r < n
+          → Stands w (record { leaf = q; at = r }) (dropWhile (startsBelow y) (entriesOf w))
       unfolding entryRank
       seek-in q r n e s f a =
           let es = entriesIn w spot in
-          let rank : r ≡ length (takeWhile (startsUpTo x) es) = rw e at s in
+          let rank : r ≡ length (takeWhile (startsBelow y) es) = rw e at s in
           let fill : n ≡ fillOf (pageOf w spot) = rw e at f in
-          let is : dropWhile (startsUpTo x) (entriesOf w) ≡ drop r (es ++ flatMap (entriesIn w) (sides .behind)) =
-          past ∙ drop-while-in (startsUpTo x) es (flatMap (entriesIn w) (sides .behind)) (omega (arith, entries-in-long w spot)) ∙ rw rank in
+          let is : dropWhile (startsBelow y) (entriesOf w) ≡ drop r (es ++ flatMap (entriesIn w) (sides .behind)) =
+          past ∙ drop-while-in (startsBelow y) es (flatMap (entriesIn w) (sides .behind)) (omega (arith, entries-in-long w spot)) ∙ rw rank in
           rw (is, e) (stands-in (sides .before) spot r (sides .behind) seek-leafy (omega arith))
 
-      pub seek-out : (q r n m : ℕ) → q ≡ spot → r ≡ entryRank w q x → n ≡ fillOf (pageOf w q) → n ≤ r → m ≡ nextOf (pageOf w q)
-          → Stands w (record { leaf = m; at = 0 }) (dropWhile (startsUpTo x) (entriesOf w))
+      seek-out : (q r n m : ℕ) → q ≡ spot → r ≡ entryRank w q y → n ≡ fillOf (pageOf w q) → n ≤ r → m ≡ nextOf (pageOf w q)
+          → Stands w (record { leaf = m; at = 0 }) (dropWhile (startsBelow y) (entriesOf w))
       unfolding entryRank
       seek-out q r n m e s f a g =
           let es = entriesIn w spot in
           let rest = flatMap (entriesIn w) (sides .behind) in
-          let rank : r ≡ length (takeWhile (startsUpTo x) es) = rw e at s in
+          let rank : r ≡ length (takeWhile (startsBelow y) es) = rw e at s in
           let fill : n ≡ fillOf (pageOf w spot) = rw e at f in
-          let is : dropWhile (startsUpTo x) (entriesOf w) ≡ rest =
-          past ∙ drop-while-out (startsUpTo x) es rest (omega (arith, entries-in-long w spot))
-          ∙ drop-while-none (startsUpTo x) rest (all-mono (λ e a. le-no (e .region .start) x a) rest (sides .high)) in
+          let is : dropWhile (startsBelow y) (entriesOf w) ≡ rest =
+          past ∙ drop-while-out (startsBelow y) es rest (omega (arith, entries-in-long w spot))
+          ∙ drop-while-none (startsBelow y) rest (all-mono (λ e a. lt-no (e .region .start) y (omega (arith, bound-near own x))) rest (sides .high)) in
           rw (is, g, e) (stands-next (sides .before) spot (sides .behind) seek-leafy)
 
--- THE REGIONS of the entries are the set's; of those behind x, the set's that start behind x
-pub entries-regions : (w : List ℕ) → map regionOf (entriesOf w) ≡ setOf w .regions
-unfolding entriesOf setOf
-entries-regions w = sym (regions-read w (depthOf w) (rootOf w))
+      -- THE REGIONS of the entries are the set's; of those that do not start before y, the set's from y on
+      entries-regions : map regionOf (entriesOf w) ≡ setOf w .regions
+      unfolding entriesOf setOf
+      entries-regions = sym (regions-read w (depthOf w) (rootOf w))
 
-rising-says : (rs : List Region) → Says (allPairs startsFirst rs) (Pairs (λ (x y : Region). x .start < y .start) rs)
-unfolding startsFirst
-rising-says rs = pairs-say (λ x y. lt-says (x .start) (y .start)) rs
+      from-regions : map regionOf (dropWhile (startsBelow y) (entriesOf w)) ≡ filter (startsFrom y) (setOf w .regions)
+      unfolding startsBefore
+      from-regions =
+          drop-while-map regionOf (startsBefore y) (entriesOf w) ∙ ap (dropWhile (startsBefore y)) entries-regions
+          ∙ from-rests y (setOf w .regions) (set-rises w t)
 
-behind-filter : (x : ℕ) (rs : List Region) → Pairs (λ (a b : Region). a .start < b .start) rs → dropWhile (λ (r : Region). leb (r .start) x) rs ≡ filter (startsBehind x) rs
-unfolding startsBehind
-behind-filter x rs p =
-    rests (λ (r : Region). leb (r .start) x) rs (pairs-mono (λ a b l t. le→leb (a .start) x (let k = leb→le (b .start) x t in omega arith)) rs p)
-    ∙ filter-both (λ (r : Region). not (leb (r .start) x)) (λ (r : Region). ltb x (r .start))
-    (λ r t. lt-says x (r .start) .so-yes (nleb→lt (r .start) x t))
-    (λ r t. T-off (le-no (r .start) x (lt-says x (r .start) .yes-so t)))
-    rs
+      faced : {c : Cursor} → Stands w c (dropWhile (startsBelow y) (entriesOf w)) → Faces w c (filter (startsFrom y) (setOf w .regions))
+      faced s = record { entries = dropWhile (startsBelow y) (entriesOf w); stands = s; regions = from-regions }
 
-pub behind-regions : (w : List ℕ) (x : ℕ) → T (valid w) → map regionOf (dropWhile (startsUpTo x) (entriesOf w)) ≡ filter (startsBehind x) (setOf w .regions)
-unfolding setOf
-behind-regions w x t =
-    drop-while-map regionOf (λ (r : Region). leb (r .start) x) (entriesOf w) ∙ ap (dropWhile (λ (r : Region). leb (r .start) x)) (entries-regions w)
-    ∙ behind-filter x (setOf w .regions) (rising-says (setOf w .regions) .yes-so (row w t .rising))
+      pub found-in : (q r n : ℕ) → q ≡ spot → r ≡ entryRank w q y → n ≡ fillOf (pageOf w q) → r < n → Faces w (record { leaf = q; at = r }) (filter (startsFrom y) (setOf w .regions))
+      found-in q r n e s f a = faced (seek-in q r n e s f a)
+
+      pub found-next : (q r n m : ℕ) → q ≡ spot → r ≡ entryRank w q y → n ≡ fillOf (pageOf w q) → n ≤ r → m ≡ nextOf (pageOf w q)
+          → Faces w (record { leaf = m; at = 0 }) (filter (startsFrom y) (setOf w .regions))
+      found-next q r n m e s f a g = faced (seek-out q r n m e s f a g)

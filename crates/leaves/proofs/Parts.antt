@@ -1,4 +1,4 @@
--- The leaves left and right of the one where x belongs: what starts there. The leftmost leaf.
+-- The leaves left and right of the one where x belongs: what starts there.
 -- Assumes nothing.
 use Prim.Native.Nat.{ℕ, zero, suc, _+_, _≤_, _<_}
 use mathlib.Core.Path.{_≡_, sym, ap, _∙_}
@@ -15,11 +15,11 @@ use Rattle.xrtree.proofs.Order.{Apart}
 use Rattle.pages.specs.Layout.{pageOf, fillOf, keyWord, childIn}
 use Rattle.image.proofs.Listings.{listedAt, listedFrom, listed-leaf, listed-inner}
 use Rattle.path.specs.Path.{rankFrom, rankIn, downTo}
-use Rattle.leaves.specs.Cursors.{listEntries, entriesIn, firstLeaf}
+use Rattle.leaves.specs.Cursors.{listEntries, entriesIn}
 use Rattle.leaves.proofs.Rows.{listPlaces, entries-read, entries-read-from, starts-at, starts-from}
 
-abbrev pub UpTo : ℕ → Entry → Type 0
-UpTo x e = e .region .start ≤ x
+abbrev pub Before : ℕ → Entry → Type 0
+Before x e = e .region .start < x
 
 abbrev pub Behind : ℕ → Entry → Type 0
 Behind x e = x < e .region .start
@@ -29,7 +29,7 @@ pub record Parted (w : List ℕ) (x : ℕ) (ps : List ℕ) (q : ℕ) : Type 0 wh
   pub before : List ℕ
   pub behind : List ℕ
   pub is : ps ≡ before ++ q ∷ behind
-  pub low : All (UpTo x) (flatMap (entriesIn w) before)
+  pub low : All (Before x) (flatMap (entriesIn w) before)
   pub high : All (Behind x) (flatMap (entriesIn w) behind)
 
 module _ (w : List ℕ) (x : ℕ) where
@@ -43,13 +43,13 @@ module _ (w : List ℕ) (x : ℕ) where
         high = rw (flat-append (entriesIn w) (d .behind) rs) (all-append (Behind x) (flatMap (entriesIn w) (d .behind)) (flatMap (entriesIn w) rs) (d .high) a);
       }
 
-  more-before : (rs ps : List ℕ) (q : ℕ) → Parted w x ps q → All (UpTo x) (flatMap (entriesIn w) rs) → Parted w x (rs ++ ps) q
+  more-before : (rs ps : List ℕ) (q : ℕ) → Parted w x ps q → All (Before x) (flatMap (entriesIn w) rs) → Parted w x (rs ++ ps) q
   more-before rs ps q d a =
       record {
         before = rs ++ d .before;
         behind = d .behind;
         is = ap (rs ++_) (d .is) ∙ sym (append-assoc rs (d .before) (q ∷ d .behind));
-        low = rw (flat-append (entriesIn w) rs (d .before)) (all-append (UpTo x) (flatMap (entriesIn w) rs) (flatMap (entriesIn w) (d .before)) a (d .low));
+        low = rw (flat-append (entriesIn w) rs (d .before)) (all-append (Before x) (flatMap (entriesIn w) rs) (flatMap (entriesIn w) (d .before)) a (d .low));
         high = d .high;
       }
 
@@ -63,10 +63,10 @@ module _ (w : List ℕ) (x : ℕ) where
       (all-mono {P = λ (e : Entry). k ≤ e .region .start} {Q = Behind x} (λ e b. omega arith) (listedFrom listEntries w h ws i m) (starts-from w (Apart (key k)) h ws i m a))
 
   left-of : (h p k : ℕ) (rest : List Item) → k ≤ x → All (λ (i : Item). All (Apart i) (key k ∷ rest)) (listedAt listItems w h p)
-      → All (UpTo x) (flatMap (entriesIn w) (listedAt listPlaces w h p))
+      → All (Before x) (flatMap (entriesIn w) (listedAt listPlaces w h p))
   left-of h p k rest l a =
       rw entries-read at
-      (all-mono {P = λ (e : Entry). e .region .start < k} {Q = UpTo x} (λ e b. omega arith) (listedAt listEntries w h p)
+      (all-mono {P = λ (e : Entry). e .region .start < k} {Q = Before x} (λ e b. omega arith) (listedAt listEntries w h p)
       (starts-at w (λ (i : Item). Apart i (key k)) h p (all-mono (λ i b. b .0) (listedAt listItems w h p) a)))
 
   parted-from : (h : ℕ) → ((q : ℕ) → Parts h q) → (ws : List ℕ) (i m : ℕ) → Pairs Apart (listedFrom listItems w h ws i m)
@@ -94,22 +94,3 @@ module _ (w : List ℕ) (x : ℕ) where
   parted zero p a = record { before = []; behind = []; is = listed-leaf listPlaces w p; low = tt; high = tt }
   parted (suc h) p a =
       rw (listed-inner listPlaces w h p) (parted-from h (λ q b. parted h q b) (pageOf w p) 0 (fillOf (pageOf w p)) (rw (listed-inner listItems w h p) at a))
-
--- THE LEFTMOST LEAF comes first
-pub record Headed (ps : List ℕ) (q : ℕ) : Type 0 where
-  pub rest : List ℕ
-  pub is : ps ≡ q ∷ rest
-
-headed-more : (ps rs : List ℕ) (q : ℕ) → Headed ps q → Headed (ps ++ rs) q
-headed-more ps rs q d = record { rest = d .rest ++ rs; is = ap (_++ rs) (d .is) }
-
-headed-from : (w : List ℕ) (h : ℕ) (ws : List ℕ) (m q : ℕ) → Headed (listedAt listPlaces w h (childIn ws 0)) q → Headed (listedFrom listPlaces w h ws 0 m) q
-unfolding listedFrom
-headed-from w h ws zero q d = d
-headed-from w h ws (suc m) q d = headed-more (listedAt listPlaces w h (childIn ws 0)) (listedFrom listPlaces w h ws 1 m) q d
-
-pub headed : (w : List ℕ) (h p : ℕ) → Headed (listedAt listPlaces w h p) (firstLeaf h w p)
-unfolding firstLeaf
-headed w zero p = record { rest = []; is = listed-leaf listPlaces w p }
-headed w (suc h) p =
-    rw (listed-inner listPlaces w h p) (headed-from w h (pageOf w p) (fillOf (pageOf w p)) (firstLeaf h w (childIn (pageOf w p) 0)) (headed w h (childIn (pageOf w p) 0)))

@@ -139,9 +139,3 @@ module _ (w : List ℕ) where
   full-behind least zero p f xs q (y ∷ ys) e =
       absurd (omega (arith, length-append xs (q ∷ y ∷ ys), ap length (sym (listed-leaf listPlaces w p) ∙ e)))
   full-behind least (suc h) p f xs q ys e = all-right Full xs (q ∷ ys) (rw e at (full-inner least h p f)) .1
-
-  -- a leaf with no entry is alone
-  pub alone : (least h p : ℕ) → FillsFrom least h w p → (q : ℕ) (ys : List ℕ) → listedAt listPlaces w h p ≡ q ∷ ys → fillOf (pageOf w q) ≡ 0 → ys ≡ []
-  alone least zero p f q [] e z = refl
-  alone least zero p f q (y ∷ ys) e z = absurd (omega (arith, ap length (sym (listed-leaf listPlaces w p) ∙ e)))
-  alone least (suc h) p f q ys e z = absurd (let g = rw e at (full-inner least h p f) in omega (arith, g .0))

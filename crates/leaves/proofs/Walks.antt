@@ -15,7 +15,7 @@ use Rattle.pages.specs.Layout.{pageCount, pageOf, fillOf, nextOf, regionIn, ent
 use Rattle.image.specs.Read.{entryAt, entriesFrom}
 use Rattle.image.proofs.Listings.{entries-long}
 use Rattle.leaves.specs.declared.Cursor.{Cursor}
-use Rattle.leaves.specs.Cursors.{entriesIn, leavesFrom, leavesAt, Chain, left, Ready, Stands, atEnd, movedOn, stepFrom, handed}
+use Rattle.leaves.specs.Cursors.{entriesIn, leavesFrom, leavesAt, Chain, left, Ready, Stands, movedOn, stepFrom, handed}
 use Rattle.leaves.specs.Cursors.Chain.{done, link}
 use Rattle.leaves.specs.declared.Step.the-variants.{Next, End}
 
@@ -81,9 +81,6 @@ unfolding left flatMap
 left-end w c e =
     ap (λ q. drop (c .at) (flatMap (entriesIn w) (leavesAt w q))) e
     ∙ ap (λ l. drop (c .at) (flatMap (entriesIn w) l)) (leaves-none pageCount w) ∙ drop-nil (c .at)
-
-pub ready-end : (w : List ℕ) → Ready w atEnd
-ready-end w = record { chain = rw (leaves-none pageCount w) done; ended = λ e. refl; inside = λ n. absurd (n refl) }
 
 -- A STEP, as the code makes it
 pub moved-in : (w : List ℕ) (c : Cursor) (n : ℕ) → n ≡ fillOf (pageOf w (c .leaf)) → c .at + 1 < n → record { leaf = c .leaf; at = c .at + 1 } ≡ movedOn w c

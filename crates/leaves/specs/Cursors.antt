@@ -4,11 +4,11 @@ use Prim.Native.Nat.{ℕ, zero, suc, _+_, _≤_, _<_}
 use mathlib.Core.Path.{_≡_}
 use mathlib.Core.Bool.{Bool, cond}
 use mathlib.Core.List.{List, [], _∷_, flatMap}
-use lib.Dec.{eqb, ltb, leb}
+use lib.Dec.{eqb, ltb}
 use lib.ListN.{length, drop}
 use Rattle.words.specs.Lists.{takeWhile}
 use Rattle.xrtree.specs.Tree as tree
-use Rattle.pages.specs.Layout.{pageCount, pageOf, fillOf, nextOf, childIn}
+use Rattle.pages.specs.Layout.{pageCount, pageOf, fillOf, nextOf}
 use Rattle.image.specs.Read.{entryAt, entriesFrom, depthOf, treeOf}
 use Rattle.leaves.specs.declared.Entry.{Entry}
 use Rattle.leaves.specs.declared.Cursor.{Cursor}
@@ -25,13 +25,16 @@ entriesOf w = tree.listed listEntries (depthOf w) (treeOf w)
 unfoldable pub entriesIn : List ℕ → ℕ → List tree.Entry
 entriesIn w p = entriesFrom (pageOf w p) 0 (fillOf (pageOf w p))
 
--- an entry that starts at x or before
-abbrev pub startsUpTo : ℕ → tree.Entry → Bool
-startsUpTo x e = leb (e .region .start) x
+-- WHERE A WALK BEGINS at a position x: at x where what starts there is asked for, else at the next one
+abbrev pub boundAt : Bool → ℕ → ℕ
+boundAt own x = cond own x (suc x)
 
--- how many of a leaf's entries stand before the first that starts behind x
+-- an entry that starts before y; how many of a leaf's entries stand before the first that does not
+abbrev pub startsBelow : ℕ → tree.Entry → Bool
+startsBelow y e = ltb (e .region .start) y
+
 unfoldable pub entryRank : List ℕ → ℕ → ℕ → ℕ
-entryRank w p x = length (takeWhile (startsUpTo x) (entriesIn w p))
+entryRank w p y = length (takeWhile (startsBelow y) (entriesIn w p))
 
 -- THE LEAVES from place p on, each named by the one before it: at most n, 0 ends them
 unfoldable pub leavesFrom : ℕ → List ℕ → ℕ → List ℕ
@@ -61,9 +64,6 @@ pub record Stands (w : List ℕ) (c : Cursor) (es : List tree.Entry) : Type 0 wh
   pub ahead : left w c ≡ es
 
 -- the cursor moved on: in its leaf, or to the first entry of the next one
-abbrev pub atEnd : Cursor
-atEnd = record { leaf = 0; at = 0 }
-
 unfoldable pub movedOn : List ℕ → Cursor → Cursor
 movedOn w c =
     cond (ltb (c .at + 1) (fillOf (pageOf w (c .leaf)))) (record { leaf = c .leaf; at = c .at + 1 })
@@ -76,7 +76,7 @@ handed e = record { region = e .region; flag = e .flag }
 unfoldable pub stepFrom : List ℕ → Cursor → Step
 stepFrom w c = cond (eqb (c .leaf) 0) End (Next (handed (entryAt (pageOf w (c .leaf)) (c .at))) (movedOn w c))
 
--- the leftmost leaf below place p
-unfoldable pub firstLeaf : ℕ → List ℕ → ℕ → ℕ
-firstLeaf zero w p = p
-firstLeaf (suc h) w p = firstLeaf h w (childIn (pageOf w p) 0)
+-- the start that it faces, by its step; the last position of all where there is none
+unfoldable pub startFaced : Step → ℕ
+startFaced End = 4294967295
+startFaced (Next e c) = e .region .start

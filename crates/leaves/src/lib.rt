@@ -1,14 +1,15 @@
 // The entries of a set in order, along the leaves' links: a cursor by value, whose step hands the entry and the cursor moved on.
 ghost use mathlib.Core.Path.{_≡_};
-ghost use Prim.Native.Nat.{_<_, _≤_};
-ghost use lib.Dec.{T};
-ghost use Rattle.words.specs.Lists.{dropWhile};
-ghost use Rattle.pages.specs.Layout.{rootOf, heightOf, pageOf, fillOf};
-ghost use Rattle.image.specs.Read.{depthOf};
-ghost use Rattle.image.specs.Fills.{Fills};
+ghost use Prim.Native.Nat.{suc, _<_, _≤_};
+ghost use lib.Dec.{T, ltb};
+ghost use Rattle.words.specs.Lists.{filter};
+ghost use Rattle.regions.specs.Sets.{startsFrom};
+ghost use Rattle.pages.specs.Layout.{pageOf, fillOf};
+ghost use Rattle.image.specs.Read.{setOf};
 ghost use Rattle.image.specs.Valid.{valid};
-ghost use Rattle.path.specs.Path.{downTo};
-ghost use Rattle.leaves.specs.Cursors.{entriesOf, startsUpTo, entryRank, Stands, movedOn, stepFrom, firstLeaf};
+ghost use Rattle.path.specs.Path.{pathOf, padded};
+ghost use Rattle.leaves.specs.Cursors.{boundAt, entryRank, movedOn, stepFrom, startFaced};
+ghost use Rattle.leaves.specs.Faces.{Faces};
 use regions::Region;
 
 // A leaf's entry: the region, and whether it stands in a stab list.
@@ -45,6 +46,18 @@ impl Cursor {
         Step::Next(Entry { region, flag }, on)
     }
 
+    // The start of the entry that the cursor stands at; at the end, the last position of all.
+    pub fn start(self, img: &[u32]) -> u32
+        requires { ⌜ self .at < 9 ⌝ }
+        ensures { λ r. ⌜ r ≡ startFaced (stepFrom (now (img .entry)) self) ⌝ }
+    {
+        let leaf = self.leaf;
+        if leaf == 0 {
+            return 4294967295;
+        }
+        pages::entry_start(img, leaf, words::wide(self.at))
+    }
+
     // To the next entry of the leaf, or the first of the leaf on the right.
     fn moved(self, img: &[u32]) -> Cursor
         requires { ⌜ self .at < 9 ⌝ }
@@ -63,52 +76,25 @@ impl Cursor {
     }
 }
 
-// The leaf on the left of all others.
-fn first_leaf(img: &[u32]) -> u32
-    requires { ⌜ 1 ≤ heightOf (now img) ⌝ }
-    ensures { λ r. ⌜ r ≡ firstLeaf (depthOf (now (img .entry))) (now (img .entry)) (rootOf (now (img .entry))) ⌝ }
+// Whether a start stands before x; one at x itself does, unless it is asked for.
+fn is_before(start: u32, x: u32, own: bool) -> bool
+    ensures { λ r. ⌜ r ≡ ltb start (boundAt own x) ⌝ }
 {
-    let mut at = path::root(img);
-    let mut left = path::depth(img);
-    while 0 < left {
-        at = pages::child(img, at, 0);
-        left -= 1;
+    if own {
+        return start < x;
     }
-    at
+    start <= x
 }
 
-// The cursor at the first entry of a set; of an empty set, whose root is an empty leaf, at the end.
-pub fn first(img: &[u32]) -> Cursor
-    requires { ⌜ T (valid (now img)) ⌝ }
-    ensures { λ r. ⌜ Stands (now (img .entry)) r (entriesOf (now (img .entry))) ⌝ }
-{
-    let leaf = first_leaf(img);
-    if pages::fill(img, leaf) == 0 {
-        return Cursor { leaf: 0, at: 0 };
-    }
-    Cursor { leaf, at: 0 }
-}
-
-// The leaf where x belongs.
-fn leaf_for(img: &[u32], x: u32) -> u32
-    requires { ⌜ (1 ≤ heightOf (now img)) × (heightOf (now img) ≤ 4) ⌝ }
-    requires { ⌜ Fills (depthOf (now img)) (now img) (rootOf (now img)) ⌝ }
-    ensures { λ r. ⌜ r ≡ downTo (depthOf (now (img .entry))) (now (img .entry)) x (rootOf (now (img .entry))) ⌝ }
-{
-    let path = path::descend(img, x);
-    let d = path::depth(img);
-    path[d]
-}
-
-// How many entries of a leaf stand before the first that starts behind x.
-fn entry_rank(img: &[u32], leaf: u32, x: u32) -> u32
+// How many entries of a leaf stand before x.
+fn entry_rank(img: &[u32], leaf: u32, x: u32, own: bool) -> u32
     requires { ⌜ fillOf (pageOf (now img) leaf) ≤ 8 ⌝ }
-    ensures { λ r. ⌜ r ≡ entryRank (now (img .entry)) leaf x ⌝ }
+    ensures { λ r. ⌜ r ≡ entryRank (now (img .entry)) leaf (boundAt own x) ⌝ }
 {
     let n = pages::fill(img, leaf);
     let mut i: u32 = 0;
     while i < n {
-        if x < pages::entry_start(img, leaf, words::wide(i)) {
+        if !is_before(pages::entry_start(img, leaf, words::wide(i)), x, own) {
             return i;
         }
         i += 1;
@@ -116,13 +102,15 @@ fn entry_rank(img: &[u32], leaf: u32, x: u32) -> u32
     i
 }
 
-// The cursor at the first entry that starts behind x: in the leaf where x belongs, else the next leaf's first.
-pub fn seek(img: &[u32], x: u32) -> Cursor
+// THE CURSOR at the first entry that starts behind x, or (own) at x or behind it, for those who have x's path: in the leaf where x belongs, else the next leaf's first.
+pub fn seek_along(img: &[u32], way: [u32; 4], x: u32, own: bool) -> Cursor
     requires { ⌜ T (valid (now img)) ⌝ }
-    ensures { λ r. ⌜ Stands (now (img .entry)) r (dropWhile (startsUpTo x) (entriesOf (now (img .entry)))) ⌝ }
+    requires { ⌜ way ≡ padded (pathOf (now img) x) ⌝ }
+    ensures { λ r. ⌜ Faces (now (img .entry)) r (filter (startsFrom (boundAt own x)) (setOf (now (img .entry)) .regions)) ⌝ }
 {
-    let leaf = leaf_for(img, x);
-    let rank = entry_rank(img, leaf, x);
+    let depth = path::depth(img);
+    let leaf = way[depth];
+    let rank = entry_rank(img, leaf, x, own);
     if rank < pages::fill(img, leaf) {
         Cursor { leaf, at: rank }
     } else {
@@ -131,4 +119,20 @@ pub fn seek(img: &[u32], x: u32) -> Cursor
             at: 0,
         }
     }
+}
+
+// The cursor at the first entry that starts behind x.
+pub fn seek(img: &[u32], x: u32) -> Cursor
+    requires { ⌜ T (valid (now img)) ⌝ }
+    ensures { λ r. ⌜ Faces (now (img .entry)) r (filter (startsFrom (suc x)) (setOf (now (img .entry)) .regions)) ⌝ }
+{
+    seek_along(img, path::descend(img, x), x, false)
+}
+
+// The cursor at the first entry that starts at y or behind it.
+pub fn seek_from(img: &[u32], y: u32) -> Cursor
+    requires { ⌜ T (valid (now img)) ⌝ }
+    ensures { λ r. ⌜ Faces (now (img .entry)) r (filter (startsFrom y) (setOf (now (img .entry)) .regions)) ⌝ }
+{
+    seek_along(img, path::descend(img, y), y, true)
 }

@@ -16,7 +16,7 @@ use Rattle.pages.specs.Layout.{imageWords, rootOf, heightOf, pageOf, fillOf, ch
 use Rattle.image.specs.Read.{depthOf}
 use Rattle.image.specs.Fills.{FillsFrom, Fills, rootLeast}
 use Rattle.image.specs.Valid.{sized, valid}
-use Rattle.image.proofs.Fills.{within-facts}
+use Rattle.image.proofs.Fills.{within-facts, valid-fills}
 use Rattle.path.specs.Path.{rankIn, childFor, pathFrom, pathOf, downTo, padded}
 use Rattle.path.proofs.Ranks.{rank-fill}
 
@@ -27,6 +27,10 @@ valid-sized w t =
     let s = and-left (eqb (length w) imageWords && within 1 4 (heightOf w)) _ t in
     let f = within-facts 1 4 (heightOf w) (and-right (eqb (length w) imageWords) _ s) in
     (eq-says (length w) imageWords .yes-so (and-left (eqb (length w) imageWords) _ s), f .0, f .1)
+
+-- and what the way down asks of it
+pub descend-asks : (w : List ℕ) → T (valid w) → ((1 ≤ heightOf w) × (heightOf w ≤ 4)) × Fills (depthOf w) w (rootOf w)
+descend-asks w v = let z = valid-sized w v in ((z .1, z .2), valid-fills w v)
 
 module _ (w : List ℕ) (x : ℕ) where
   -- THE PATH

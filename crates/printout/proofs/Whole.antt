@@ -18,7 +18,7 @@ use Rattle.regions.specs.Sound.{Ascending}
 use Rattle.regions.proofs.Joined.{joined-ascends, past-fresh, past-next}
 use Rattle.image.specs.Read.{setOf}
 use Rattle.image.specs.Valid.{valid}
-use Rattle.inward.proofs.Faces.{set-rises}
+use Rattle.image.proofs.Sound.{set-rises}
 use Rattle.printout.specs.Printed.{pairLine, pairsText, batchPairs, batch, Batches, none-left, one-more, accountText, accounts, joinText}
 
 none-long : {A : Type 0} (xs : List A) → length xs ≡ 0 → xs ≡ []

@@ -1,15 +1,17 @@
 -- What each test on positions and regions says, so that `omega` can go on from it.
 -- Assumes nothing.
-use Prim.Native.Nat.{ℕ, _+_, _<_, _≤_}
-use mathlib.Core.Path.{_≡_}
+use Prim.Native.Nat.{ℕ, suc, _+_, _<_, _≤_}
+use mathlib.Core.Path.{_≡_, refl}
 use mathlib.Core.Logic.{_⊎_, inl, inr}
 use mathlib.Core.Bool.{not}
+use mathlib.Core.List.{List}
 use native.Mathlib.Omega.{arith}
 use native.Mathlib.Decide.{decLe, ℕ-discrete}
+use Rattle.words.specs.Lists.{filter}
 use Rattle.words.proofs.Says.{Says, says-iff, says-same, and-says, eq-says, lt-says, le-says}
 use Rattle.regions.specs.declared.Region.{Region}
 use Rattle.regions.specs.Positions.{document, account, wellBound, wellFormed, endsBefore, contains, nested, crosses, stabs, holds, inside, isAbove, isBelow}
-use Rattle.regions.specs.Sets.{of, isAt, startsBefore, startsBehind}
+use Rattle.regions.specs.Sets.{of, isAt, startsBefore, startsBehind, startsFrom}
 use Rattle.regions.specs.Calls.{foreign}
 use Rattle.regions.proofs.Extra.{or-says, not-says}
 
@@ -84,6 +86,15 @@ before-says s r = lt-says (r .start) s
 pub behind-says : (s : ℕ) (r : Region) → Says (startsBehind s r) (s < r .start)
 unfolding startsBehind
 behind-says s r = lt-says s (r .start)
+
+pub from-says : (s : ℕ) (r : Region) → Says (startsFrom s r) (s ≤ r .start)
+unfolding startsFrom
+from-says s r = le-says s (r .start)
+
+-- behind a position is from the next one on
+pub behind-from : (s : ℕ) (rs : List Region) → filter (startsBehind s) rs ≡ filter (startsFrom (suc s)) rs
+unfolding startsBehind startsFrom
+behind-from s rs = refl
 
 -- TWO REGIONS
 pub ends-says : (x y : Region) → Says (endsBefore x y) (x .end < y .start)

@@ -4,19 +4,20 @@ use Prim.Native.Nat.{ℕ, suc, _+_, _<_, _≤_}
 use mathlib.Core.Path.{_≡_, refl, sym, ap, ap₂, _∙_, subst}
 use mathlib.Core.Bool.{true, false, not, cond, false≢true}
 use mathlib.Core.List.{List, [], _∷_, _++_, append-nil}
+use lib.Dec.{T}
 use lib.ListN.{length, getD, length-append}
 use native.Mathlib.Omega.{arith}
 use native.Mathlib.Decide.{decLt, ℕ-discrete}
-use Rattle.words.specs.Lists.{filter, some, allPairs, All, Pairs, sum}
+use Rattle.words.specs.Lists.{filter, dropWhile, some, allPairs, All, Pairs, sum}
 use Rattle.words.proofs.Tests.{T-of, of-T, not-false, not-true, by-test}
-use Rattle.words.proofs.Listed.{all-mono, all-two, all-append, all-kept, all-let, pairs-kept, pairs-right, pairs-across, pairs-put, filter-append, filter-yes, filter-no, filter-all, filter-none, filter-same, filter-comm, none-of, some-none}
-use Rattle.words.proofs.Says.{Says, pairs-say}
+use Rattle.words.proofs.Listed.{all-mono, all-every, all-two, all-append, all-kept, all-let, pairs-mono, pairs-kept, pairs-right, pairs-across, pairs-put, filter-append, filter-yes, filter-no, filter-all, filter-none, filter-same, filter-comm, none-of, some-none, begins, rests, while-join}
+use Rattle.words.proofs.Says.{Says, says-same, says-iff, pairs-say}
 use Rattle.regions.specs.declared.Region.{Region}
 use Rattle.regions.specs.Positions.{account, nested, crosses}
-use Rattle.regions.specs.Sets.{Set, emptySet, of, only, heldBy, shareOf, isAt, heldAt, crossed, startsBefore, startsBehind, saved, isNotAt, deleted}
+use Rattle.regions.specs.Sets.{Set, emptySet, of, only, heldBy, shareOf, isAt, heldAt, crossed, startsBefore, startsBehind, startsFrom, saved, isNotAt, deleted}
 use Rattle.regions.specs.Calls.{saveNo, deleteNo}
-use Rattle.regions.proofs.Extra.{true-so, so-true, false-so, so-false, some-split, length-parts}
-use Rattle.regions.proofs.Means.{at-says, before-says, behind-says, of-says, nested-comm}
+use Rattle.regions.proofs.Extra.{true-so, so-true, false-so, so-false, not-says, some-split, length-parts}
+use Rattle.regions.proofs.Means.{at-says, before-says, behind-says, from-says, of-says, nested-comm}
 use Rattle.regions.specs.Sound.{Wf, Rising, Nesting, Sound}
 use Rattle.regions.proofs.Local.{held-local, saved-of, saved-other, deleted-other}
 use Rattle.regions.proofs.Done.{MaySave, MayDelete, save-done, delete-done}
@@ -52,6 +53,22 @@ sides s (x ∷ xs) h =
         by-test (isAt s y)
         (λ e. let m = true-so (at-says s y) e in so-false (behind-says s y) (λ q. omega arith) ∙ sym (ap not e))
         (λ e. let n : (y .start ≡ s → ⊥) = false-so (at-says s y) e in so-true (behind-says s y) (omega arith) ∙ sym (ap not e))
+
+-- those that start before it come first; the others are those from it on
+sooner : (s : ℕ) (rs : List Region) → Rising rs → Pairs (λ x y. T (startsBefore s y) → T (startsBefore s x)) rs
+sooner s rs up = pairs-mono (λ x y k t. let u = before-says s y .yes-so t in before-says s x .so-yes (omega arith)) rs up
+
+pub from-rests : (s : ℕ) (rs : List Region) → Rising rs → dropWhile (startsBefore s) rs ≡ filter (startsFrom s) rs
+from-rests s rs up =
+    rests (startsBefore s) rs (sooner s rs up)
+    ∙ filter-same (λ r. not (startsBefore s r)) (startsFrom s) rs
+    (all-every (λ r. says-same (not-says (before-says s r)) (says-iff (from-says s r) (λ h k. omega arith) (λ n. back r n))) rs)
+  where
+    back : (r : Region) → (r .start < s → ⊥) → s ≤ r .start
+    back r n = omega arith
+
+pub parts : (s : ℕ) (rs : List Region) → Rising rs → rs ≡ filter (startsBefore s) rs ++ filter (startsFrom s) rs
+parts s rs up = sym (while-join (startsBefore s) rs) ∙ ap₂ _++_ (begins (startsBefore s) rs (sooner s rs up)) (from-rests s rs up)
 
 -- no region has that start
 pub free-all : (s : ℕ) (S : Set) → heldAt s S ≡ false → All (λ x. isNotAt s x ≡ true) (S .regions)

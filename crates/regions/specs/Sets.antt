@@ -1,7 +1,7 @@
 -- Document 01, "Calls", of what they are made on: a set, which is sixteen shares and the regions held, in ascending start. What it holds, what a save and a delete leave of it.
 -- Assumes nothing.
 use Prim.Native.Nat.{ℕ}
-use mathlib.Core.Bool.{Bool, true, false, not, _&&_}
+use mathlib.Core.Bool.{Bool, not}
 use mathlib.Core.List.{List, [], _∷_, _++_}
 use lib.Dec.{leb, ltb, eqb}
 use lib.ListN.{length, getD}
@@ -47,6 +47,10 @@ startsBefore s r = ltb (r .start) s
 
 unfoldable pub startsBehind : ℕ → Region → Bool
 startsBehind s r = ltb s (r .start)
+
+-- (at a position or behind it: what a walk that begins there has ahead)
+unfoldable pub startsFrom : ℕ → Region → Bool
+startsFrom s r = leb s (r .start)
 
 unfoldable pub saved : Region → Set → Set
 saved r S =

@@ -21,8 +21,6 @@ use Rattle.xrtree.proofs.Whole.Post.{atEnd}
 use Rattle.pages.specs.Layout.{rootOf, heightOf, sharesOf, pageOf, fillOf}
 use Rattle.image.specs.Read.{depthOf, treeOf, setOf}
 use Rattle.image.specs.Valid.{valid}
-use Rattle.image.specs.Fills.{Fills}
-use Rattle.image.proofs.Fills.{valid-fills}
 use Rattle.image.proofs.Small.{Small}
 use Rattle.image.proofs.Facts.{valid-facts}
 use Rattle.holding.proofs.Reading.{place-read}
@@ -73,10 +71,6 @@ path-leads w x zero p l = tt
 path-leads w x (suc zero) p l = (refl, tt)
 path-leads w x (suc (suc zero)) p l = (refl, (refl, tt))
 path-leads w x (suc (suc (suc h))) p l = absurd (omega arith)
-
--- WHAT DESCEND ASKS
-pub descend-asks : (w : List ℕ) → T (valid w) → ((1 ≤ heightOf w) × (heightOf w ≤ 4)) × Fills (depthOf w) w (rootOf w)
-descend-asks w v = let z = valid-sized w v in ((z .1, z .2), valid-fills w v)
 
 module _ (w : List ℕ) (v : T (valid w)) (small : Small w) (a s : ℕ) (may : deleteNo (setOf w) a s ≡ 0) where
   found : Found s (setOf w .regions)

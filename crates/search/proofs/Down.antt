@@ -18,7 +18,7 @@ use Rattle.path.specs.Path.{rankFrom, rankIn, childFor, pathOf, downTo, padded}
 use Rattle.path.proofs.Ways.{path-long, path-at, down-more, down-none, fills-at, fills-here}
 use Rattle.search.specs.declared.Task.{Task}
 use Rattle.search.specs.declared.Tally.{Tally}
-use Rattle.search.specs.Tallies.{Tallied, stepped}
+use Rattle.search.specs.Tallies.{Tallied, stepped, freshTally}
 use Rattle.search.specs.Parts.{listsFrom, listsLookedFrom, listsMet, listsLooked, leafMet}
 use Rattle.search.proofs.Tallies.{tallied-step, tallied-then, Leads, leads-all, leads-on, leads-last}
 use Rattle.search.proofs.Parts.{lists-few, lists-looked-few}
@@ -91,17 +91,17 @@ module _ (w : List ℕ) (p : ℕ) (way : List ℕ) (e : way ≡ padded (pathOf w
   way-few f = rw way-at (fills-here w p 0 (depthOf w - i) (downTo i w p (rootOf w)) (fills-at w p (rootLeast (depthOf w)) (depthOf w) i (rootOf w) l f) .1)
 
 -- ALONG THE PATH: i pages were searched
-abbrev pub Going : Task → List ℕ → Tally → List ℕ → ℕ → List ℕ → Tally → ℕ → Type 0
-Going task out₀ t₀ w p out t i =
-    Leads task out₀ t₀ (find (depthOf w) p (treeOf w)) (steps (depthOf w) p (treeOf w)) out t
+abbrev pub Going : Task → List ℕ → List ℕ → ℕ → List ℕ → Tally → ℕ → Type 0
+Going task out₀ w p out t i =
+    Leads task out₀ freshTally (find (depthOf w) p (treeOf w)) (steps (depthOf w) p (treeOf w)) out t
     (findAt w p (depthOf w - i) (downTo i w p (rootOf w))) (stepsAt w p (depthOf w - i) (downTo i w p (rootOf w))) (5000 * i)
 
-pub path-start : {task : Task} {out : List ℕ} {t : Tally} (w : List ℕ) (p : ℕ) → Going task out t w p out t 0
-path-start w p = let e : depthOf w - 0 ≡ depthOf w = omega arith in rw (e, down-none w p (rootOf w)) leads-all
+pub path-start : {task : Task} {out : List ℕ} {t : Tally} (w : List ℕ) (p : ℕ) → t ≡ freshTally → Going task out w p out t 0
+path-start w p f = let e : depthOf w - 0 ≡ depthOf w = omega arith in rw (f, e, down-none w p (rootOf w)) leads-all
 
-module _ {task : Task} {out₀ : List ℕ} {t₀ : Tally} (w : List ℕ) (p : ℕ) {out : List ℕ} {t : Tally} (i : ℕ) (l : Going task out₀ t₀ w p out t i)
+module _ {task : Task} {out₀ : List ℕ} (w : List ℕ) (p : ℕ) {out : List ℕ} {t : Tally} (i : ℕ) (l : Going task out₀ w p out t i)
     (page : ℕ) (e : page ≡ downTo i w p (rootOf w)) (t₁ : Tally) (s : t₁ ≡ stepped t) (out₂ : List ℕ) (t₂ : Tally) where
-  pub path-on : i < depthOf w → fillOf (pageOf w page) ≤ 8 → Tallied task out t₁ (listsMet w p page) (listsLooked w p page) out₂ t₂ → Going task out₀ t₀ w p out₂ t₂ (i + 1)
+  pub path-on : i < depthOf w → fillOf (pageOf w page) ≤ 8 → Tallied task out t₁ (listsMet w p page) (listsLooked w p page) out₂ t₂ → Going task out₀ w p out₂ t₂ (i + 1)
   path-on h few r =
       let q = downTo i w p (rootOf w) in
       let m : depthOf w - i ≡ suc (depthOf w - suc i) = omega arith in
@@ -113,7 +113,7 @@ module _ {task : Task} {out₀ : List ℕ} {t₀ : Tally} (w : List ℕ) (p : �
       (ap (λ k. stepsAt w p k q) m ∙ steps-page w p (depthOf w - suc i) q ∙ rw e)
       (omega arith) (omega arith))
 
-  pub path-end : i ≡ depthOf w → Tallied task out t₁ (leafMet w p page) 0 out₂ t₂ → Tallied task out₀ t₀ (find (depthOf w) p (treeOf w)) (steps (depthOf w) p (treeOf w)) out₂ t₂
+  pub path-end : i ≡ depthOf w → Tallied task out t₁ (leafMet w p page) 0 out₂ t₂ → Tallied task out₀ freshTally (find (depthOf w) p (treeOf w)) (steps (depthOf w) p (treeOf w)) out₂ t₂
   path-end h r =
       let q = downTo i w p (rootOf w) in
       let m : depthOf w - i ≡ 0 = omega arith in

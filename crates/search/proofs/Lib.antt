@@ -1,4 +1,3 @@
-pub mod Tasks
 pub mod Tallies
 pub mod Parts
 pub mod Turns

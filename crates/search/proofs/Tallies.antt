@@ -10,33 +10,24 @@ use Rattle.words.specs.Lists.{filter}
 use Rattle.words.proofs.Listed.{filter-no, filter-append}
 use Rattle.words.proofs.Counted.{filter-short}
 use Rattle.regions.specs.declared.Region.{Region}
+use Rattle.regions.specs.Calls.{regionWidth, regionWords}
 use Rattle.answers.specs.Items.{writtenFrom}
 use Rattle.answers.proofs.Items.{from-none, from-long, from-append}
 use Rattle.search.specs.declared.Found.{Found}
 use Rattle.search.specs.declared.Found.the-variants.{At}
 use Rattle.search.specs.declared.Task.{Task}
-use Rattle.search.specs.declared.Task.the-variants.{List as Listing, Above, Pair}
 use Rattle.search.specs.declared.Tally.{Tally}
-use Rattle.search.specs.Tasks.{accepts, taskWords}
+use Rattle.search.specs.Tasks.{accepts}
 use Rattle.search.specs.Tallies.{lastFound, taken, Tallied, stepped}
-
-pub words-wide : (task : Task) (a : Region) → length (taskWords task a) ≡ 4
-unfolding taskWords
-words-wide Listing a = refl
-words-wide (Above l) a = refl
-words-wide (Pair q) a = refl
 
 pub last-append : (f : Found) (xs ys : List Region) → lastFound f (xs ++ ys) ≡ lastFound (lastFound f xs) ys
 unfolding lastFound
 last-append f [] ys = refl
 last-append f (x ∷ xs) ys = last-append (At x) xs ys
 
--- one region met and not taken, one taken
-abbrev pub passed : Tally → Tally
-passed t = record { total = t .total; met = t .met + 1; steps = t .steps; last = t .last }
-
+-- one region taken
 abbrev pub counted : Tally → Region → Tally
-counted t a = record { total = t .total + 1; met = t .met + 1; steps = t .steps; last = At a }
+counted t a = record { total = t .total + 1; steps = t .steps; last = At a }
 
 module _ {task : Task} {out : List ℕ} {t : Tally} where
   pub tallied-short : {rs : List Region} {n : ℕ} {out′ : List ℕ} {t′ : Tally} → Tallied task out t rs n out′ t′ → t′ .total ≤ t .total + length rs
@@ -45,31 +36,30 @@ module _ {task : Task} {out : List ℕ} {t : Tally} where
   -- NOTHING MET
   pub tallied-none : Tallied task out t [] 0 out t
   unfolding filter lastFound
-  tallied-none = record { words = sym (from-none (taskWords task) 4 (t .total) out); total = omega arith; met = omega arith; steps = omega arith; last = refl }
+  tallied-none = record { words = sym (from-none regionWords regionWidth (t .total) out); total = omega arith; steps = omega arith; last = refl }
 
   pub tallied-step : {t′ : Tally} → t′ ≡ stepped t → Tallied task out t [] 1 out t′
   unfolding filter lastFound
   tallied-step e =
       subst (λ (u : Tally). Tallied task out t [] 1 out u) (sym e)
-      (record { words = sym (from-none (taskWords task) 4 (t .total) out); total = omega arith; met = omega arith; steps = refl; last = refl })
+      (record { words = sym (from-none regionWords regionWidth (t .total) out); total = omega arith; steps = refl; last = refl })
 
   -- ONE REGION MET: not asked for, or taken
-  pub tallied-pass : {a : Region} → accepts task a ≡ false → Tallied task out t (a ∷ []) 0 out (passed t)
+  pub tallied-pass : {a : Region} → accepts task a ≡ false → Tallied task out t (a ∷ []) 0 out t
   unfolding filter lastFound
   tallied-pass {a} h =
       let e : taken task (a ∷ []) ≡ [] = filter-no (accepts task) a [] h in
       record {
-        words = rw e (sym (from-none (taskWords task) 4 (t .total) out));
+        words = rw e (sym (from-none regionWords regionWidth (t .total) out));
         total = rw e (omega arith);
-        met = refl;
         steps = omega arith;
         last = rw e;
       }
 
-  pub tallied-take : {a : Region} {out′ : List ℕ} → accepts task a ≡ true → out′ ≡ writtenFrom (taskWords task) 4 (t .total) out (a ∷ [])
+  pub tallied-take : {a : Region} {out′ : List ℕ} → accepts task a ≡ true → out′ ≡ writtenFrom regionWords regionWidth (t .total) out (a ∷ [])
       → Tallied task out t (a ∷ []) 0 out′ (counted t a)
   unfolding filter lastFound
-  tallied-take {a} h w = record { words = rw h w; total = rw h; met = refl; steps = omega arith; last = rw h }
+  tallied-take {a} h w = record { words = rw h w; total = rw h; steps = omega arith; last = rw h }
 
   -- the same regions, said otherwise
   pub tallied-same : {xs ys : List Region} {n : ℕ} {out′ : List ℕ} {t′ : Tally} → xs ≡ ys → Tallied task out t xs n out′ t′ → Tallied task out t ys n out′ t′
@@ -81,42 +71,21 @@ module _ {task : Task} {out : List ℕ} {t : Tally} where
   tallied-then {xs} {ys} {n} {m} {out′} {out″} r s =
       let e : taken task (xs ++ ys) ≡ taken task xs ++ taken task ys = filter-append (accepts task) xs ys in
       record {
-        words = rw (e, from-append (taskWords task) 4 (words-wide task) (t .total) out (taken task xs) (taken task ys), ← r .words, ← r .total) (s .words);
+        words = rw (e, from-append regionWords regionWidth (λ a. refl) (t .total) out (taken task xs) (taken task ys), ← r .words, ← r .total) (s .words);
         total = rw (e, length-append (taken task xs) (taken task ys)) (omega (arith, r .total, s .total));
-        met = omega (arith, r .met, s .met, length-append xs ys);
         steps = omega (arith, r .steps, s .steps);
         last = rw (e, last-append (t .last) (taken task xs) (taken task ys), ← r .last) (s .last);
       }
-
--- ONE ANSWER: two that are tallied alike are the same
-pub tallied-one : {task : Task} {out out′ out″ : List ℕ} {t t′ t″ : Tally} {rs : List Region} {n : ℕ} → Tallied task out t rs n out′ t′ → Tallied task out t rs n out″ t″ → (out′ ≡ out″) × (t′ ≡ t″)
-tallied-one {t′ = t′} {t″ = t″} r s = (
-  r .words ∙ sym (s .words),
-  (λ i. record { total = total i; met = met i; steps = steps i; last = last i }),
-)
-  where
-    total : t′ .total ≡ t″ .total
-    total = r .total ∙ sym (s .total)
-
-    met : t′ .met ≡ t″ .met
-    met = r .met ∙ sym (s .met)
-
-    steps : t′ .steps ≡ t″ .steps
-    steps = r .steps ∙ sym (s .steps)
-
-    last : t′ .last ≡ t″ .last
-    last = r .last ∙ sym (s .last)
 
 -- WHAT IS STILL TO BE MET: whatever meets it makes the whole. At most so many were taken, and steps made, by now
 pub record Leads (task : Task) (out₀ : List ℕ) (t₀ : Tally) (whole : List Region) (all : ℕ) (out : List ℕ) (t : Tally) (rest : List Region) (n most : ℕ) : Type 0 where
   pub on : (out′ : List ℕ) (t′ : Tally) → Tallied task out t rest n out′ t′ → Tallied task out₀ t₀ whole all out′ t′
   pub long : length out ≡ length out₀
   pub total : t .total ≤ t₀ .total + most
-  pub met : t .met ≤ t₀ .met + most
   pub steps : t .steps ≤ t₀ .steps + most
 
 pub leads-all : {task : Task} {out : List ℕ} {t : Tally} {whole : List Region} {all : ℕ} → Leads task out t whole all out t whole all 0
-leads-all = record { on = λ out′ t′ r. r; long = refl; total = omega arith; met = omega arith; steps = omega arith }
+leads-all = record { on = λ out′ t′ r. r; long = refl; total = omega arith; steps = omega arith }
 
 module _ {task : Task} {out₀ out : List ℕ} {t₀ t : Tally} {whole rest : List Region} {all n most : ℕ} (l : Leads task out₀ t₀ whole all out t rest n most) where
   -- a part of it was met
@@ -125,9 +94,8 @@ module _ {task : Task} {out₀ out : List ℕ} {t₀ t : Tally} {whole rest : Li
   leads-on {some} r e f a b =
       record {
         on = λ out′ t′ s. l .on out′ t′ (rw (e, f) (tallied-then r s));
-        long = ap length (r .words) ∙ from-long (taskWords task) 4 (t .total) out (taken task some) ∙ l .long;
+        long = ap length (r .words) ∙ from-long regionWords regionWidth (t .total) out (taken task some) ∙ l .long;
         total = omega (arith, l .total, tallied-short r);
-        met = omega (arith, l .met, r .met);
         steps = omega (arith, l .steps, r .steps);
       }
 

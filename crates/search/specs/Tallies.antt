@@ -12,7 +12,7 @@ use Rattle.search.specs.declared.Found.{Found}
 use Rattle.search.specs.declared.Found.the-variants.{Nothing, At}
 use Rattle.search.specs.declared.Task.{Task}
 use Rattle.search.specs.declared.Tally.{Tally}
-use Rattle.search.specs.Tasks.{accepts, taskWords}
+use Rattle.search.specs.Tasks.{accepts}
 
 -- none or one region
 unfoldable pub foundList : Found → List Region
@@ -30,28 +30,26 @@ taken task met = filter (accepts task) met
 
 -- from a tally t and an answer out: the regions rs were met, and n steps were made
 pub record Tallied (task : Task) (out : List ℕ) (t : Tally) (rs : List Region) (n : ℕ) (out′ : List ℕ) (t′ : Tally) : Type 0 where
-  pub words : out′ ≡ writtenFrom (taskWords task) 4 (t .total) out (taken task rs)
+  pub words : out′ ≡ writtenFrom regionWords regionWidth (t .total) out (taken task rs)
   pub total : t′ .total ≡ t .total + length (taken task rs)
-  pub met : t′ .met ≡ t .met + length rs
   pub steps : t′ .steps ≡ t .steps + n
   pub last : t′ .last ≡ lastFound (t .last) (taken task rs)
 
 -- one step more
 abbrev pub stepped : Tally → Tally
-stepped t = record { total = t .total; met = t .met; steps = t .steps + 1; last = t .last }
+stepped t = record { total = t .total; steps = t .steps + 1; last = t .last }
 
 -- so small that no sum of a search wraps
 abbrev pub Small : ℕ → Tally → Type 0
-Small more t = (t .total < 1099511627776 + more) × (t .met < 1099511627776 + more) × (t .steps < 1099511627776 + more)
+Small more t = (t .total < 1099511627776 + more) × (t .steps < 1099511627776 + more)
 
 -- where a search begins
 abbrev pub freshTally : Tally
-freshTally = record { total = 0; met = 0; steps = 0; last = Nothing }
+freshTally = record { total = 0; steps = 0; last = Nothing }
 
--- what ancestor search answers: the words, the total (all that are met), the steps (and its tally's last)
+-- what ancestor search answers: the words, the total, the steps (and its tally's last)
 pub record AncestorsFound (found : List Region) (n : ℕ) (out out′ : List ℕ) (r : Tally) : Type 0 where
   pub words : out′ ≡ written regionWords regionWidth out found
   pub total : r .total ≡ length found
-  pub met : r .met ≡ length found
   pub steps : r .steps ≡ n
   pub last : r .last ≡ lastFound Nothing found

@@ -1,22 +1,18 @@
-// One traversal along a position's path serves ancestor search, parent search and the join: what is asked of each ancestor is its task.
+// One traversal along a position's path serves ancestor search and parent search: what is asked of each ancestor is its task.
 ghost use mathlib.Core.Path.{_≡_};
 ghost use mathlib.Core.List.{[], _∷_};
 ghost use lib.Dec.{T};
 ghost use Prim.Native.Nat.{_<_, _≤_};
-ghost use Rattle.regions.specs.Calls.{pairsWith, pairOf, ancestors, parent};
-ghost use Rattle.regions.specs.Desk.{isPast};
+ghost use Rattle.regions.specs.Calls.{ancestors, parent};
 ghost use Rattle.pages.specs.Layout.{rootOf, heightOf, pageOf, fillOf};
 ghost use Rattle.image.specs.Read.{entryAt, depthOf, treeOf, setOf};
 ghost use Rattle.image.specs.Fills.{Fills};
 ghost use Rattle.image.specs.Valid.{valid};
 ghost use Rattle.path.specs.Path.{pathOf, padded};
 ghost use Rattle.xrtree.specs.Search.{run, cost, find, steps};
-ghost use Rattle.answers.specs.Items.{writtenFrom};
-ghost use Rattle.search.specs.Tasks.{paired, accepts, taskWords};
+ghost use Rattle.search.specs.Tasks.{accepts};
 ghost use Rattle.search.specs.Tallies.{foundList, Tallied, AncestorsFound, stepped, freshTally, Small};
 ghost use Rattle.search.specs.Parts.{heldFrom, lookedFrom, keyIn, listsMet, listsLooked, entriesMet, leafMet};
-use regions::Kind;
-use regions::Mark;
 use regions::Region;
 
 // None, or the last region that a search took.
@@ -25,68 +21,17 @@ pub enum Found {
     At(Region),
 }
 
-// The join's question at one d of the inner set.
-pub struct Pairing {
-    pub d: Region,
-    pub kind: Kind,
-    pub mark: Mark,
-}
-
-// Which ancestors are taken: all; those of the level one less; those that pair with d past a mark.
+// Which ancestors are taken: all; those of the level one less.
 pub enum Task {
     List,
     Above(u32),
-    Pair(Pairing),
 }
 
-// How many ancestors were taken and how many were met, the steps made, and the last one taken.
+// How many ancestors were taken, the steps made, and the last one taken.
 pub struct Tally {
     pub total: usize,
-    pub met: usize,
     pub steps: usize,
     pub last: Found,
-}
-
-// Whether a join of this kind pairs a with d.
-pub fn pairs_with(kind: Kind, d: Region, a: Region) -> bool
-    ensures { λ t. ⌜ t ≡ pairsWith kind d a ⌝ }
-{
-    if !regions::holds(d.start, a) {
-        return false;
-    }
-    match kind {
-        Kind::Ancestor => true,
-        Kind::Parent => regions::is_above(d.level, a),
-    }
-}
-
-// Whether the pair of a and d comes later than the marked one, by d's start and then by a's.
-pub fn is_past(mark: Mark, d: Region, a: Region) -> bool
-    ensures { λ t. ⌜ t ≡ isPast mark (pairOf d a) ⌝ }
-{
-    let Mark::Last(x, y) = mark else {
-        return true;
-    };
-    if y < d.start {
-        return true;
-    }
-    if d.start < y {
-        return false;
-    }
-    x < a.start
-}
-
-// Whether a pairs with d, and the pair has not been handed yet.
-fn is_paired(q: Pairing, a: Region) -> bool
-    ensures { λ t. ⌜ t ≡ paired q a ⌝ }
-{
-    let kind = q.kind;
-    let d = q.d;
-    if !pairs_with(kind, d, a) {
-        return false;
-    }
-    let mark = q.mark;
-    is_past(mark, d, a)
 }
 
 // Whether the task takes an ancestor.
@@ -96,21 +41,6 @@ fn is_asked(task: Task, a: Region) -> bool
     match task {
         Task::List => true,
         Task::Above(level) => regions::is_above(level, a),
-        Task::Pair(q) => is_paired(q, a),
-    }
-}
-
-// Writes an ancestor as item number k of the answer, as its task has it.
-fn put(out: &mut [u32], task: Task, k: usize, a: Region)
-    ensures { λ _. ⌜ now (out .exit) ≡ writtenFrom (taskWords task) 4 k (now (out .entry)) (a ∷ []) ⌝ }
-{
-    match task {
-        Task::List => answers::put_region(out, k, a),
-        Task::Above(_) => answers::put_region(out, k, a),
-        Task::Pair(q) => {
-            let d = q.d;
-            answers::put_pair(out, k, a, d);
-        }
     }
 }
 
@@ -122,7 +52,6 @@ fn step(t: Tally) -> Tally
     let last = t.last;
     Tally {
         total: t.total,
-        met: t.met,
         steps: t.steps + 1,
         last,
     }
@@ -134,18 +63,11 @@ fn visit(task: Task, a: Region, out: &mut [u32], t: Tally) -> Tally
     ensures { λ r. ⌜ Tallied task (now (out .entry)) t (a ∷ []) 0 (now (out .exit)) r ⌝ }
 {
     if !is_asked(task, a) {
-        let last = t.last;
-        return Tally {
-            total: t.total,
-            met: t.met + 1,
-            steps: t.steps,
-            last,
-        };
+        return t;
     }
-    put(out, task, t.total, a);
+    answers::put_region(out, t.total, a);
     Tally {
         total: t.total + 1,
-        met: t.met + 1,
         steps: t.steps,
         last: Found::At(a),
     }
@@ -259,23 +181,26 @@ fn leaf_own(img: &[u32], page: u32, p: u32, task: Task, out: &mut [u32], start: 
     t
 }
 
+// Where a search begins.
+fn fresh() -> Tally
+    ensures { λ r. ⌜ r ≡ freshTally ⌝ }
+{
+    Tally {
+        total: 0,
+        steps: 0,
+        last: Found::Nothing,
+    }
+}
+
 // Goes along p's path: the lists of each inner page, from the root down, then the leaf. Each page is a step.
-fn search_path(
-    img: &[u32],
-    way: [u32; 4],
-    p: u32,
-    task: Task,
-    out: &mut [u32],
-    start: Tally,
-) -> Tally
+fn search_path(img: &[u32], way: [u32; 4], p: u32, task: Task, out: &mut [u32]) -> Tally
     requires { ⌜ (1 ≤ heightOf (now img)) × (heightOf (now img) ≤ 4) ⌝ }
     requires { ⌜ Fills (depthOf (now img)) (now img) (rootOf (now img)) ⌝ }
     requires { ⌜ way ≡ padded (pathOf (now img) p) ⌝ }
-    requires { ⌜ Small 0 start ⌝ }
-    ensures { λ r. ⌜ Tallied task (now (out .entry)) start (find (depthOf (now (img .entry))) p (treeOf (now (img .entry)))) (steps (depthOf (now (img .entry))) p (treeOf (now (img .entry)))) (now (out .exit)) r ⌝ }
+    ensures { λ r. ⌜ Tallied task (now (out .entry)) freshTally (find (depthOf (now (img .entry))) p (treeOf (now (img .entry)))) (steps (depthOf (now (img .entry))) p (treeOf (now (img .entry)))) (now (out .exit)) r ⌝ }
 {
     let depth = path::depth(img);
-    let mut t = start;
+    let mut t = fresh();
     let mut i: usize = 0;
     while i < depth {
         t = step(t);
@@ -286,34 +211,30 @@ fn search_path(
     leaf_own(img, way[depth], p, task, out, t)
 }
 
-// THE SEARCH of a valid image for the ancestors of p, outermost first. The tally t goes on, so that several searches fill one answer.
-pub fn search(img: &[u32], p: u32, task: Task, out: &mut [u32], t: Tally) -> Tally
+// THE SEARCH of a valid image for the ancestors of p, outermost first, along p's path.
+fn search(img: &[u32], way: [u32; 4], p: u32, task: Task, out: &mut [u32]) -> Tally
     requires { ⌜ T (valid (now img)) ⌝ }
-    requires { ⌜ Small 0 t ⌝ }
-    ensures { λ r. ⌜ Tallied task (now (out .entry)) t (ancestors p (setOf (now (img .entry)))) (steps (depthOf (now (img .entry))) p (treeOf (now (img .entry)))) (now (out .exit)) r ⌝ }
+    requires { ⌜ way ≡ padded (pathOf (now img) p) ⌝ }
+    ensures { λ r. ⌜ Tallied task (now (out .entry)) freshTally (ancestors p (setOf (now (img .entry)))) (steps (depthOf (now (img .entry))) p (treeOf (now (img .entry)))) (now (out .exit)) r ⌝ }
 {
-    let way = path::descend(img, p);
-    search_path(img, way, p, task, out, t)
+    search_path(img, way, p, task, out)
 }
 
-// Where a search begins.
-pub fn fresh() -> Tally
-    ensures { λ r. ⌜ r ≡ freshTally ⌝ }
+// ANCESTOR SEARCH of a valid image along p's path, for those who have it: as many as fit, their total, and the steps made.
+pub fn ancestors_along(img: &[u32], way: [u32; 4], p: u32, out: &mut [u32]) -> Tally
+    requires { ⌜ T (valid (now img)) ⌝ }
+    requires { ⌜ way ≡ padded (pathOf (now img) p) ⌝ }
+    ensures { λ r. ⌜ AncestorsFound (ancestors p (setOf (now (img .entry)))) (steps (depthOf (now (img .entry))) p (treeOf (now (img .entry)))) (now (out .entry)) (now (out .exit)) r ⌝ }
 {
-    Tally {
-        total: 0,
-        met: 0,
-        steps: 0,
-        last: Found::Nothing,
-    }
+    search(img, way, p, Task::List, out)
 }
 
-// ANCESTOR SEARCH of a valid image: as many as fit, their total, and the steps made.
+// ANCESTOR SEARCH of a valid image: down to p's leaf, and along that path.
 pub fn ancestors(img: &[u32], p: u32, out: &mut [u32]) -> Tally
     requires { ⌜ T (valid (now img)) ⌝ }
     ensures { λ r. ⌜ AncestorsFound (ancestors p (setOf (now (img .entry)))) (steps (depthOf (now (img .entry))) p (treeOf (now (img .entry)))) (now (out .entry)) (now (out .exit)) r ⌝ }
 {
-    search(img, p, Task::List, out, fresh())
+    ancestors_along(img, path::descend(img, p), p, out)
 }
 
 // PARENT SEARCH of a valid image: the innermost ancestor whose level is one less, or none. One word has no room for a region, so none is written.
@@ -325,7 +246,13 @@ pub fn parent(img: &[u32], p: u32, level: u32) -> Found
         return Found::Nothing;
     }
     let mut no_room = [0u32; 1];
-    let t = search(img, p, Task::Above(level), &mut no_room, fresh());
+    let t = search(
+        img,
+        path::descend(img, p),
+        p,
+        Task::Above(level),
+        &mut no_room,
+    );
     let last = t.last;
     let Found::At(a) = last else {
         return Found::Nothing;

@@ -1,14 +1,12 @@
--- The regions that reach a position from the left, and what the innermost of them says of a crossing; the entries from a start on.
+-- The regions that reach a position from the left, and what the innermost of them says of a crossing.
 -- Assumes nothing.
-use Prim.Native.Nat.{ℕ, zero, suc}
+use Prim.Native.Nat.{ℕ}
 use mathlib.Core.Bool.{Bool, false, _&&_}
 use mathlib.Core.List.{List, [], _∷_}
 use lib.Dec.{leb, ltb}
-use Rattle.words.specs.Lists.{filter, dropWhile}
+use Rattle.words.specs.Lists.{filter}
 use Rattle.regions.specs.Sets.{Set}
 use Rattle.regions.specs.declared.Region.{Region}
-use Rattle.xrtree.specs.Tree.{Entry}
-use Rattle.leaves.specs.Cursors.{startsUpTo}
 
 -- start < x ≤ end
 unfoldable pub reaches : ℕ → Region → Bool
@@ -25,8 +23,3 @@ endsBy e (r ∷ rs) = leb (r .end) e
 unfoldable pub startsPast : ℕ → List Region → Bool
 startsPast s [] = false
 startsPast s (r ∷ rs) = ltb s (r .start)
-
--- the entries from the first that starts at y or behind it on
-unfoldable pub fromStart : ℕ → List Entry → List Entry
-fromStart zero es = es
-fromStart (suc x) es = dropWhile (startsUpTo x) es

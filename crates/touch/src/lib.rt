@@ -8,31 +8,18 @@ ghost use Rattle.regions.specs.Sets.{isAt, heldAt, crossed};
 ghost use Rattle.regions.specs.Calls.{ancestors, innermost};
 ghost use Rattle.image.specs.Read.{setOf};
 ghost use Rattle.image.specs.Valid.{valid};
-ghost use Rattle.leaves.specs.Cursors.{entriesOf, Stands};
 ghost use Rattle.search.specs.Tallies.{foundList};
-ghost use Rattle.touch.specs.Reach.{reach, endsBy, startsPast, fromStart};
-use leaves::Cursor;
+ghost use Rattle.touch.specs.Reach.{reach, endsBy, startsPast};
 use leaves::Step;
 use regions::Region;
 use search::Found;
-
-// The cursor at the first entry that starts at y or behind it. No start comes before 0, and a seek finds what starts behind a position.
-fn cursor_from(img: &[u32], y: u32) -> Cursor
-    requires { ⌜ T (valid (now img)) ⌝ }
-    ensures { λ r. ⌜ Stands (now (img .entry)) r (fromStart y (entriesOf (now (img .entry)))) ⌝ }
-{
-    if y == 0 {
-        return leaves::first(img);
-    }
-    leaves::seek(img, y - 1)
-}
 
 // THE HELD REGION WITH THAT START, if there is one: starts ascend, so only the first entry that does not start before y can be it.
 pub fn region_at(img: &[u32], y: u32) -> Found
     requires { ⌜ T (valid (now img)) ⌝ }
     ensures { λ r. ⌜ foundList r ≡ filter (isAt y) (setOf (now (img .entry)) .regions) ⌝ }
 {
-    let cursor = cursor_from(img, y);
+    let cursor = leaves::seek_from(img, y);
     let step = cursor.step(img);
     let Step::Next(entry, _) = step else {
         return Found::Nothing;

@@ -1,4 +1,4 @@
--- What the code does in smaller bites: the leaf split entry by entry, and the skip of the join.
+-- What the code does in smaller bites: the leaf split entry by entry, the audit of a list, the child of a position.
 -- Assumes nothing.
 use Prim.Native.Nat.{ℕ, zero, suc, _+_, _-_, _≤_, _<_}
 use mathlib.Core.Path.{_≡_, refl, sym, ap, ap₂, _∙_}
@@ -7,14 +7,14 @@ use mathlib.Core.List.{List, [], _∷_, _++_, map, append-nil}
 use lib.Dec.{leb, ltb, eqb}
 use native.Mathlib.Omega.{arith}
 use Rattle.words.specs.Lists.{filter, All, Pairs}
-use Rattle.words.proofs.Tests.{off-T, no-T, by-test, and-right, lt-of, nlt-of, le-yes, le-no}
-use Rattle.words.proofs.Listed.{all-mono, all-two, filter-yes, filter-no, filter-append, filter-none, none-of, map-append}
-use Rattle.regions.specs.Positions.{stabs, holds}
+use Rattle.words.proofs.Tests.{off-T, by-test, and-right, lt-of, nlt-of, le-yes, le-no}
+use Rattle.words.proofs.Listed.{all-mono, filter-yes, filter-no, filter-append, filter-none, map-append}
+use Rattle.regions.specs.Positions.{stabs}
 use Rattle.regions.specs.declared.Region.{Region}
 use Rattle.xrtree.specs.Tree.{Entry, Key, regionOf}
 use Rattle.xrtree.specs.Rules.{keyBetween, sameRegion, sameRegions}
 use Rattle.xrtree.proofs.Claims.{InKids}
-use Rattle.xrtree.proofs.Box.{of-stabs, of-holds, to-holds}
+use Rattle.xrtree.proofs.Box.{of-stabs}
 use Rattle.xrtree.proofs.Splice.{marked}
 use Rattle.xrtree.proofs.Split.{fresh}
 
@@ -67,16 +67,6 @@ pub key-between : (last first : ℕ) → last < first → (last < keyBetween las
 unfolding keyBetween
 key-between last first h =
     by-test (ltb last (first - 1)) (λ t. rw t (lt-of last (first - 1) t, omega arith)) (λ t. rw t (h, omega arith))
-
--- THE SKIP of the join: p has no ancestor, and nothing starts in p .. q - 1: no position of p .. q has an ancestor
-pub skip : (rs : List Region) (p q x : ℕ) → filter (holds p) rs ≡ [] → All (λ (r : Region). p ≤ r .start → q ≤ r .start) rs → p ≤ x → x ≤ q → filter (holds x) rs ≡ []
-skip rs p q x e a l u =
-    filter-none (holds x) rs
-    (all-two (λ r n m. off-T (holds x r) (λ t.
-    let s = of-holds x r t in
-    by-test (ltb (r .start) p)
-    (λ h. let w = lt-of (r .start) p h in no-T n (to-holds p r (omega arith)))
-    (λ h. let w = nlt-of (r .start) p h in let v = m w in omega arith))) rs (none-of (holds p) rs e) a)
 
 -- A CUT of a leaf between z and y, at a key k with z.start < k ≤ y.start: what the split asks
 pub record Cut (k : ℕ) (xs : List Entry) (y : Entry) (ys : List Entry) : Type 0 where

@@ -2,14 +2,13 @@
 -- Assumes nothing.
 use borrow.Author.Needs.{needs}
 use native.Mathlib.Omega.{arith}
-use Rattle.image.proofs.Fills.{valid-fills}
-use Rattle.path.proofs.Ways.{valid-sized}
+use Rattle.path.proofs.Ways.{descend-asks}
 use Rattle.insert.proofs.Entered.{enter-asks, depth-asks, spread-asks, top-asks, save-right}
 use Rattle.insert.proofs.insert.Statement.{statement}
 use Rattle.insert.proofs.insert.Tie as tie
 
 descend-requires : tie.Need-descend-requires
-descend-requires c κs = let s = valid-sized _ (c .before .before .pre .1) in ((s .1, s .2), valid-fills _ (c .before .before .pre .1))
+descend-requires c κs = descend-asks _ (c .before .before .pre .1)
 
 put-entry-requires : tie.Need-put-entry-requires
 put-entry-requires c κs = enter-asks _ (λ i. omega (arith, c .before .before .before .slice-known .given i)) _ _ (c .before .before .before .before .pre .1) (c .before .before .before .before .pre .2) (omega (arith, c .before .before .before .before .good)) _ (c .before .descend .ensures)

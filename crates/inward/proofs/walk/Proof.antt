@@ -10,10 +10,9 @@ use Rattle.words.specs.Lists.{filter}
 use Rattle.regions.specs.Sets.{startsBehind}
 use Rattle.image.specs.Read.{setOf}
 use Rattle.leaves.specs.Cursors.{left}
+use Rattle.leaves.proofs.Faces.{faces-few, faces-less}
 use Rattle.inward.specs.Lists.{asked}
-use Rattle.inward.proofs.Faces.{faces-few, faces-less, faces-behind, behind-rises}
 use Rattle.inward.proofs.Walks.{Walking, walk-start, walk-end, walk-stop, walk-more, walk-on}
-use Rattle.inward.proofs.Faces.{faces-few, faces-less, faces-behind}
 use Rattle.inward.proofs.walk.Statement.{statement}
 use Rattle.inward.proofs.walk.Tie as tie
 use Rattle.inward.proofs.take.Reads as take-reads
@@ -30,7 +29,7 @@ seek-requires : tie.Need-seek-requires Inv-loop μ-loop
 seek-requires c κs = search needs
 
 loop-holds : tie.Need-loop-holds Inv-loop μ-loop
-loop-holds c = (omega arith, walk-start _ _ _ (faces-behind _ _ (c .before .before .before .pre) (c .seek .ensures)) (behind-rises _ _ (c .before .before .before .pre)))
+loop-holds c = (omega arith, walk-start _ _ _ _ _ _ (c .before .before .before .pre) (c .seek .ensures))
 
 step-requires : tie.Need-step-requires Inv-loop μ-loop
 step-requires c κs = faces-few _ (c .loop .inv .1 .faces)

@@ -2,7 +2,8 @@
 -- Assumes nothing.
 use borrow.Author.Needs.{needs}
 use native.Mathlib.Omega.{arith}
-use Rattle.remove.proofs.Removing.{descend-asks, take-asks, high-enough, leaf-done, mend-asks, kept-done, shrink-asks, shrunk-done}
+use Rattle.path.proofs.Ways.{descend-asks}
+use Rattle.remove.proofs.Removing.{take-asks, high-enough, leaf-done, mend-asks, kept-done, shrink-asks, shrunk-done}
 use Rattle.remove.proofs.remove.Statement.{statement}
 use Rattle.remove.proofs.remove.Tie as tie
 use Rattle.owner.proofs.shrink_root.Reads as shrink-root-reads

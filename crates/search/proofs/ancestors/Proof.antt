@@ -1,22 +1,21 @@
--- `search::ancestors` meets its contract: the whole search, from nothing.
+-- `search::ancestors` meets its contract: the search along the path that was gone down.
 -- Assumes nothing.
 use borrow.Author.Needs.{needs}
-use native.Mathlib.Omega.{arith}
-use Rattle.search.proofs.Tops.{all-found}
+use Rattle.path.proofs.Ways.{descend-asks}
 use Rattle.search.proofs.ancestors.Statement.{statement}
 use Rattle.search.proofs.ancestors.Tie as tie
 
-fresh-requires : tie.Need-fresh-requires
-fresh-requires c κs = search needs
+descend-requires : tie.Need-descend-requires
+descend-requires c κs = descend-asks _ (c .before .before .pre)
 
-search-requires : tie.Need-search-requires
-search-requires c κs = (c .before .before .before .before .pre, rw (c .fresh .ensures) (omega arith))
+ancestors-along-requires : tie.Need-ancestors-along-requires
+ancestors-along-requires c κs = search needs
 
 same-length : tie.Need-same-length
 same-length c = search needs
 
 returns : tie.Need-returns
-returns c = all-found (c .before .before .before .fresh .ensures) (c .before .before .search .ensures)
+returns c = search needs
 
 pub ancestors-spec : {M : Type 1} → statement M
-ancestors-spec = tie.close (tie.spec fresh-requires search-requires same-length returns)
+ancestors-spec = tie.close (tie.spec descend-requires ancestors-along-requires same-length returns)

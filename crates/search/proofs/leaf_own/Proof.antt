@@ -24,7 +24,7 @@ loop-holds : tie.Need-loop-holds Inv-loop μ-loop
 loop-holds c = (omega arith, omega arith, leaf-start _ _ _ _ (c .wide .ensures ∙ c .before .fill .ensures))
 
 own-entry-requires : tie.Need-own-entry-requires Inv-loop μ-loop
-own-entry-requires c κs = omega (arith, c .before .before .loop .inv .2 .total, c .before .before .loop .inv .2 .met, c .before .before .loop .inv .2 .steps)
+own-entry-requires c κs = omega (arith, c .before .before .loop .inv .2 .total, c .before .before .loop .inv .2 .steps)
 
 add-i : tie.Need-add-i Inv-loop μ-loop
 add-i c = search needs

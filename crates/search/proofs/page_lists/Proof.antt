@@ -24,7 +24,7 @@ loop-holds : tie.Need-loop-holds Inv-loop μ-loop
 loop-holds c = (omega arith, omega arith, page-start _ _ _ _ (c .wide .ensures ∙ c .before .fill .ensures))
 
 key-list-requires : tie.Need-key-list-requires Inv-loop μ-loop
-key-list-requires c κs = omega (arith, c .before .before .loop .inv .2 .total, c .before .before .loop .inv .2 .met, c .before .before .loop .inv .2 .steps)
+key-list-requires c κs = omega (arith, c .before .before .loop .inv .2 .total, c .before .before .loop .inv .2 .steps)
 
 key-number-requires : tie.Need-key-number-requires Inv-loop μ-loop
 key-number-requires c κs = search needs

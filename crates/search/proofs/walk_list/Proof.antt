@@ -29,7 +29,7 @@ record-region-requires : tie.Need-record-region-requires Inv-loop μ-loop
 record-region-requires c κs = search needs
 
 step-requires : tie.Need-step-requires Inv-loop μ-loop
-step-requires c κs = omega (arith, c .before .before .before .loop .inv .1 .total, c .before .before .before .loop .inv .1 .met, c .before .before .before .loop .inv .1 .steps)
+step-requires c κs = omega (arith, c .before .before .before .loop .inv .1 .total, c .before .before .before .loop .inv .1 .steps)
 
 holds-requires : tie.Need-holds-requires Inv-loop μ-loop
 holds-requires c κs = search needs
@@ -41,7 +41,7 @@ returns-2 : tie.Need-returns-2 Inv-loop μ-loop
 returns-2 c = walk-stop _ _ _ _ _ (c .before .before .before .before .before .before .loop .inv .1) _ _ (c .before .before .before .before .before .loop-test .taken) (c .before .before .before .before .if1 .left) (c .before .before .before .record-region .ensures) (c .before .before .step .ensures) (sym (c .before .holds .ensures) ∙ not-true (c .before .holds .result) (c .if2 .taken))
 
 visit-requires : tie.Need-visit-requires Inv-loop μ-loop
-visit-requires c κs = rw (c .before .before .before .step .ensures) (omega (arith, c .before .before .before .before .before .before .before .loop .inv .1 .total, c .before .before .before .before .before .before .before .loop .inv .1 .met, c .before .before .before .before .before .before .before .loop .inv .1 .steps))
+visit-requires c κs = rw (c .before .before .before .step .ensures) (omega (arith, c .before .before .before .before .before .before .before .loop .inv .1 .total, c .before .before .before .before .before .before .before .loop .inv .1 .steps))
 
 record-next-requires : tie.Need-record-next-requires Inv-loop μ-loop
 record-next-requires c κs = search needs

@@ -1,0 +1,3 @@
+pub mod Stacks
+pub mod Stacked
+pub mod Pairs
