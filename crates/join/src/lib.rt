@@ -71,7 +71,7 @@ fn is_far(img: &[u32], leaf: u32, p: u32) -> bool {
 }
 
 // Whether a search leads to p sooner than the entries do, from one that ends at `end` in that leaf: not where it holds p, nor where p's place is in this leaf or the next.
-// A search looks into every page of its path, and is worth some thirty entries.
+// A search looks into every page of its path: by count it costs as much as some eleven entries.
 fn is_over(outer: &[u32], leaf: u32, end: u32, p: u32) -> bool {
     if p < end {
         return false;

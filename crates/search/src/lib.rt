@@ -122,7 +122,7 @@ fn key_list(
     walk_list(img, k.head, p, task, out, t)
 }
 
-// The lists of an inner page: of each key up to the first one greater than p, that one too. Lower keys come first, so that outer regions do.
+// The lists of an inner page, from the left: those of the keys that are not greater than p, and of the first that is. Lower keys come first, so that outer regions do.
 fn page_lists(img: &[u32], page: u32, p: u32, task: Task, out: &mut [u32], start: Tally) -> Tally
     requires { ⌜ fillOf (pageOf (now img) page) ≤ 8 ⌝ }
     requires { ⌜ Small 30000 start ⌝ }

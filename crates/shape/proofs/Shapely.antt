@@ -76,7 +76,7 @@ module _ (w : List ℕ) (t : T (shapely w)) where
   unfolding startsFirst
   shapely-ascending = pairs-say (λ (x y : Region). lt-says (x .start) (y .start)) (regions (depthOf w) (treeOf w)) .yes-so shapely-starts
 
-  -- a key is above every start on its left and at most every start on its right
+  -- a key separates: what stands left of it starts before it, what stands right does not
   pub shapely-separated : Pairs Separates (items (depthOf w) (treeOf w))
   shapely-separated = shapely-declared .separation
 

@@ -39,7 +39,7 @@ startsFirst x y = ltb (x .start) (y .start)
 unfoldable pub rule1 : (h : ℕ) → Tree h → Bool
 rule1 h t = filled h t && (linked (leaves h t) && allPairs startsFirst (regions h t))
 
--- RULE 2 (D4.3): a key is greater than every start on its left and at most every start on its right
+-- RULE 2 (D4.3): a key separates. What stands left of it starts before it, what stands right of it does not
 unfoldable pub separates : Item → Item → Bool
 separates (start a) (start b) = true
 separates (start a) (key k) = ltb a k
@@ -49,7 +49,7 @@ separates (key k) (key l) = true
 unfoldable pub rule2 : (h : ℕ) → Tree h → Bool
 rule2 h t = allPairs separates (items h t)
 
--- any such key is valid; a key that is made between two leaves is the right one's first start minus one, if that still exceeds the left one's last start, else the first start itself
+-- any such key is valid. The one that two neighbouring leaves are given is the place right before the second leaf's first start, where the first leaf has no start there or later; else that first start
 unfoldable pub keyBetween : ℕ → ℕ → ℕ
 keyBetween last first = cond (ltb last (first - 1)) (first - 1) first
 
@@ -98,7 +98,7 @@ unfoldable pub rule4 : (h : ℕ) → Tree h → Bool
 rule4 zero t = true
 rule4 (suc h) t = ownLists (stabList (t .kids)) [] (t .kids) && allKids (rule4 h) (t .kids) (t .last)
 
--- RULE 5 (Definition 3): beside each key the start and end of its list's first region, or 0 and 0
+-- RULE 5 (Definition 3): a key's stored pair is the first region of its list, by start and end; two zeros where the list is empty
 unfoldable pub pairRight : Key → List Region → Bool
 pairRight k [] = eqb (k .pairStart) 0 && eqb (k .pairEnd) 0
 pairRight k (r ∷ rs) = eqb (k .pairStart) (r .start) && eqb (k .pairEnd) (r .end)

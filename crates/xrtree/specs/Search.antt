@@ -25,7 +25,7 @@ looks p (r ∷ rs) = suc (cond (holds p r) (looks p rs) 0)
 unfoldable pub cost : ℕ → Key → ℕ
 cost p k = cond (pairHolds p k) (looks p (k .list)) 0
 
--- AN INNER PAGE: each key up to the first one greater than p, that one too, and then the child on its left; where no key is greater, the last child
+-- AN INNER PAGE: its keys from the left, with the first that is greater than p as the last of them, and then the child left of that key; where none is greater, all keys and the last child
 module _ {A : Type 0} (child : A → List Region) (p : ℕ) where
   unfoldable pub findKids : List (A × Key) → A → List Region
   findKids [] last = child last
