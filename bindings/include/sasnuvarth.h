@@ -34,7 +34,7 @@ enum {
     SASNUVARTH_IMAGE = 1,   /* not 12,288 words, or not valid */
     SASNUVARTH_REGION = 2,  /* region or bounds not well formed */
     SASNUVARTH_ACCOUNT = 3, /* account above 15, or a position of another account */
-    SASNUVARTH_HELD = 4,    /* a region with that start is held */
+    SASNUVARTH_HELD = 4,    /* the set has a region that starts there */
     SASNUVARTH_CROSS = 5,   /* it crosses a held region */
     SASNUVARTH_SHARE = 6,   /* the account holds its share */
     SASNUVARTH_ABSENT = 7,  /* no region with that start */
@@ -104,7 +104,7 @@ sasnuvarth_children(const uint32_t *image, size_t image_words, uint32_t account,
                     uint32_t start, uint32_t end, uint32_t level, uint32_t after,
                     uint32_t *out, size_t out_words);
 
-/* The pairs (a of outer, d of inner) of an account, by d's start, then a's. */
+/* An account's pairs of a region a in outer that holds the start of a region d in inner, by d's start, then a's. */
 struct sasnuvarth_join_answer
 sasnuvarth_join(const uint32_t *outer, size_t outer_words, const uint32_t *inner, size_t inner_words,
                 uint32_t account, uint32_t kind, uint32_t *out, size_t out_words);
@@ -144,7 +144,7 @@ struct sasnuvarth_part_answer {
 /* Eight closed seats. */
 struct sasnuvarth_desk sasnuvarth_open_desk(void);
 
-/* Limit 0 takes the house limit, 32. */
+/* A limit of 0 asks for as many pairs a round as the house gives, 32. */
 struct sasnuvarth_desk_answer
 sasnuvarth_open_seat(struct sasnuvarth_desk desk, uint32_t seat, uint32_t account, uint32_t kind, uint32_t limit);
 

@@ -60,7 +60,7 @@ impl Desk {
         self.flat.seats.map(seat_of)
     }
 
-    /// Opens a closed seat. Limit 0 takes the house limit, 32.
+    /// Opens a closed seat. A limit of 0 asks for as many pairs a round as the house gives, 32.
     pub fn open_seat(&mut self, seat: u32, account: u32, kind: Kind, limit: u32) -> Answer<()> {
         let told = unsafe { raw::sasnuvarth_open_seat(self.flat, seat, account, kind.number(), limit) };
         self.flat = told.desk;

@@ -49,13 +49,13 @@ pub enum Refusal {
     Region = 2,
     /// The account is above 15, or a position is of another account.
     Account = 3,
-    /// A region with that start is held.
+    /// The set already has a region there: another one starts at that position.
     Held = 4,
     /// It crosses a held region.
     Cross = 5,
     /// The account holds its share.
     Share = 6,
-    /// No region with that start is held.
+    /// Nothing in the set starts at that position.
     Absent = 7,
     /// The shares sum to more than 500.
     Shares = 8,

@@ -4,7 +4,8 @@ use Prim.Native.Nat.{ℕ, _*_}
 use mathlib.Core.Path.{_≡_, refl, sym, ap, _∙_}
 use mathlib.Core.Bool.{Bool}
 use mathlib.Core.List.{List, map}
-use lib.ListN.{replicate}
+use lib.ListN.{take, drop, replicate}
+use denote.Ref.{RefT, ptr, now}
 use Rattle.words.specs.Lists.{some}
 use Rattle.regions.specs.Numbers.{unless}
 use Rattle.regions.specs.Desk.{closed, seatWord}
@@ -12,6 +13,7 @@ use Rattle.regions.specs.declared.Region.{Region}
 use Rattle.regions.specs.declared.Seat.{Seat}
 use Rattle.index.specs.Searches.{parentNumber, parentFound}
 use Rattle.index.proofs.Once.{parent-once}
+use Rattle.desk.specs.Promises.{wordAt, LendsPart}
 use Rattle.desk.proofs.Once.{opens-desk-once, opens-seat-once, closes-seat-once, rounds-once}
 use Rattle.capi.specs.Border.{kindOf, told, TellsParent}
 use Rattle.capi.specs.Seats.{seatOf, flatSeat, Left, OpensFlatDesk, OpensFlatSeat, ClosesFlatSeat, RoundsFlat, PartsFlat}
@@ -60,3 +62,11 @@ parts-flat-once fs b i c m n p q s t x y =
       x .first-is ∙ (ap (λ (k : ℕ). unless k (seatWord i) 0) e ∙ sym (y .first-is)),
       x .words-are ∙ (ap (λ (k : ℕ). unless k (4 * c) 0) e ∙ sym (y .words-are)),
     )
+
+-- what the border tells of a part, its first word and its length, is the very slice that the desk lends; a refused one is empty on both sides
+pub part-told : (fs : List FlatSeat) (b : RefT (List ℕ)) (i c number first words : ℕ) (r : RefT (List ℕ)) → PartsFlat fs (now b) i c number first words → LendsPart (map seatOf fs) b i c r
+    → (number ≡ 0 → ptr r ≡ wordAt b first) × (now r ≡ take words (drop first (now b)))
+part-told fs b i c number first words r x y = (
+  λ z. y .place-is (sym (x .number-is .number-is) ∙ z) ∙ ap (wordAt b) (ap (λ (k : ℕ). unless k (seatWord i) 0) (sym z) ∙ sym (x .first-is)),
+  y .part-is .words-are ∙ sym (x .part-is .words-are),
+)

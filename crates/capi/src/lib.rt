@@ -451,7 +451,7 @@ pub extern "C" fn sasnuvarth_round(
     }
 }
 
-// Where a partner's part of the round buffer lies: no reference can be handed back over the border, so the part is told by its place.
+// Where a part lies in the round buffer: no reference can be handed back over the border, so the part is told by its place.
 #[no_mangle]
 pub extern "C" fn sasnuvarth_part(desk: FlatDesk, buffer: &[u32], i: u32, count: u32) -> PartAnswer
     ensures { λ r. ⌜ PartsFlat (desk .seats) (now (buffer .entry)) i count (r .number) (r .first) (r .words) ⌝ }

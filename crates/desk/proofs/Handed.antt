@@ -3,8 +3,8 @@
 use Prim.Native.Nat.{ℕ, zero, suc, _+_, _*_, _-_, _/_, _<_, _≤_}
 use native.Mathlib.Nat.{mul-div-right}
 use native.Mathlib.Omega.{arith}
-use mathlib.Core.Path.{_≡_, refl, sym, ap, ap₂, _∙_}
-use mathlib.Core.Bool.{true, false}
+use mathlib.Core.Path.{_≡_, refl, sym, ap, ap₂, _∙_, subst}
+use mathlib.Core.Bool.{Bool, true, false}
 use mathlib.Core.List.{List, [], _∷_, _++_, flatMap, append-assoc}
 use lib.ListN.{length, take, drop, getD, set, length-take, length-drop, take-append-drop}
 use lib.Seq.{sets, sets-eq, length-sets, drop-append-le, drop-drop, getD-append-add}
@@ -40,11 +40,14 @@ put-part {A} a k xs vs h l =
     ap (λ (l : List A). take a xs ++ (l ++ post)) filled ∙ ap (λ (l : List A). take a xs ++ l) (append-assoc vs (drop (length vs) mid) post ∙ ap (λ (l : List A). vs ++ l) rest)
     ∙ sym (sets-eq vs xs a (omega arith) ∙ append-assoc (take a xs) vs (drop (a + length vs) xs))
 
-pub hands : (X Y : Set) (o : Open) (b : List ℕ) (i k n : ℕ) (w : List ℕ) → length b ≡ 1024 → i < 8 → stateFits (Opened o) ≡ true → k ≡ 4 * o .limit
-    → Joined (past (o .mark) (joined X Y (o .account) (o .kind))) false (midOf (128 * i) k b) w n → Hands X Y o b i n (putMid (128 * i) k b w)
+-- the writer was lent k words from the seat's first on, those of its limit, and asked for no total
+pub hands : (X Y : Set) (o : Open) (b : List ℕ) (i k : ℕ) (all : Bool) (n : ℕ) (w : List ℕ) → length b ≡ 1024 → i < 8 → stateFits (Opened o) ≡ true
+    → Joined (past (o .mark) (joined X Y (o .account) (o .kind))) all (midOf (128 * i) k b) w n → k ≡ 4 * o .limit → all ≡ false
+    → Hands X Y o b i n (putMid (128 * i) k b w)
 unfolding stateHanded written countWritten
-hands X Y o b i k n w e h f g j =
+hands X Y o b i k all n w e h f joins g z =
     let qs = past (o .mark) (joined X Y (o .account) (o .kind)) in
+    let j = subst (λ (t : Bool). Joined qs t (midOf (128 * i) k b) w n) z joins in
     let high = open-ok o f .high in
     let fit : 128 * i + k ≤ length b = omega arith in
     let long : length (midOf (128 * i) k b) ≡ k = length-take k (drop (128 * i) b) ∙ (let m = length-drop (128 * i) b in omega arith) in

@@ -4,12 +4,13 @@ use Prim.Native.Nat.{ℕ}
 use mathlib.Core.Path.{_≡_, sym, ap, _∙_}
 use mathlib.Core.List.{List, map}
 use lib.ListN.{set, replicate}
+use denote.Ref.{RefT, ptr, now}
 use Rattle.regions.specs.Numbers.{unless}
-use Rattle.regions.specs.Desk.{closed, opened, turned, counts, served}
+use Rattle.regions.specs.Desk.{closed, opened, turned, counts, served, partNo}
 use Rattle.regions.specs.declared.Kind.{Kind}
 use Rattle.regions.specs.declared.Seat.{Seat}
 use Rattle.image.specs.Read.{setOf}
-use Rattle.desk.specs.Promises.{OpensDesk, OpensSeat, ClosesSeat, Rounds, Parts, PartNumber}
+use Rattle.desk.specs.Promises.{OpensDesk, OpensSeat, ClosesSeat, Rounds, Parts, PartNumber, LendsPart}
 
 -- what the number decides of is one where the number is one
 decided : {X : Type 0} (m n : ℕ) (x y : X) {u v : X} → m ≡ n → u ≡ unless m x y → v ≡ unless n x y → u ≡ v
@@ -47,3 +48,8 @@ parts-once ds b i n u v x y = x .words-are ∙ sym (y .words-are)
 
 pub part-number-once : (ds : List Seat) (b : List ℕ) (i n r t : ℕ) → PartNumber ds b i n r → PartNumber ds b i n t → r ≡ t
 part-number-once ds b i n r t x y = x .number-is ∙ sym (y .number-is)
+
+-- a part is one in its words, and where it is not refused, in its place
+pub lends-part-once : (ds : List Seat) (b : RefT (List ℕ)) (i n : ℕ) (u v : RefT (List ℕ)) → LendsPart ds b i n u → LendsPart ds b i n v
+    → (now u ≡ now v) × (partNo ds (now b) i n ≡ 0 → ptr u ≡ ptr v)
+lends-part-once ds b i n u v x y = (parts-once ds (now b) i n (now u) (now v) (x .part-is) (y .part-is), λ z. x .place-is z ∙ sym (y .place-is z))

@@ -1,12 +1,13 @@
 -- Document 01, "Calls": the desk's calls, their promises. Each fixes the answer and every lent word afterwards, refusals included.
 -- Assumes nothing.
-use Prim.Native.Nat.{ℕ}
+use Prim.Native.Nat.{ℕ, _+_, _*_}
 use mathlib.Core.Path.{_≡_}
 use mathlib.Core.Bool.{_&&_}
 use mathlib.Core.List.{List, map}
 use lib.ListN.{set, replicate}
+use denote.Ref.{RefT, ptr, now}
 use Rattle.regions.specs.Numbers.{unless, imageFirst}
-use Rattle.regions.specs.Desk.{closed, opened, turned, counts, served, part, openDeskNo, openSeatNo, closeSeatNo, roundNo, partNo}
+use Rattle.regions.specs.Desk.{closed, opened, turned, counts, served, seatWord, part, openDeskNo, openSeatNo, closeSeatNo, roundNo, partNo}
 use Rattle.regions.specs.declared.Kind.{Kind}
 use Rattle.regions.specs.declared.Seat.{Seat}
 use Rattle.image.specs.Read.{setOf}
@@ -33,9 +34,19 @@ pub record Rounds (outer inner : List ℕ) (ds : List Seat) (b : List ℕ) (numb
   pub desk-is : ds′ ≡ unless number (map (turned (setOf outer) (setOf inner)) ds) ds
   pub buffer-is : b′ ≡ unless number (served (setOf outer) (setOf inner) ds b) b
 
--- the lent words themselves, and the number that a second call tells
+-- a part's words; none where it is refused
 pub record Parts (ds : List Seat) (b : List ℕ) (i n : ℕ) (words : List ℕ) : Type 0 where
   pub words-are : words ≡ part ds b i n
 
+-- where a lent slice's word w stands: in the slice's own block, 4 bytes a word behind the slice's place
+abbrev pub wordAt : RefT (List ℕ) → ℕ → ℕ × ℕ
+wordAt lent w = (ptr lent .0, ptr lent .1 + 4 * w)
+
+-- a part is the lent words themselves, not equal ones elsewhere: it stands in the buffer, at the seat's first word. Of a refused one, which is empty, no place is promised
+pub record LendsPart (ds : List Seat) (buffer : RefT (List ℕ)) (i n : ℕ) (r : RefT (List ℕ)) : Type 0 where
+  pub part-is : Parts ds (now buffer) i n (now r)
+  pub place-is : partNo ds (now buffer) i n ≡ 0 → ptr r ≡ wordAt buffer (seatWord i)
+
+-- the number that a second call tells
 pub record PartNumber (ds : List Seat) (b : List ℕ) (i n number : ℕ) : Type 0 where
   pub number-is : number ≡ partNo ds b i n

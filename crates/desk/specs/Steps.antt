@@ -7,6 +7,7 @@ use mathlib.Core.List.{List, [], _∷_}
 use lib.Dec.{ltb, eqb}
 use lib.ListN.{length, take, drop, set, getD}
 use lib.Seq.{sets}
+use denote.Ref.{RefT, ptr, now}
 use Rattle.words.specs.Lists.{firstNo}
 use Rattle.regions.specs.Numbers.{SEAT, ACCOUNT, LIMIT, DESK, unless, imageFirst}
 use Rattle.regions.specs.Sets.{Set}
@@ -18,6 +19,7 @@ use Rattle.regions.specs.declared.Open.{Open}
 use Rattle.regions.specs.declared.State.{State}
 use Rattle.regions.specs.declared.Seat.{Seat}
 use Rattle.image.specs.Valid.{valid}
+use Rattle.desk.specs.Promises.{wordAt}
 
 abbrev pub seatOf : State → Seat
 seatOf t = record { state = t }
@@ -45,6 +47,11 @@ askedNo t n = firstNo ((not (stateOpen t), SEAT) ∷ (ltb (stateLimit t) n, LIMI
 -- a part's words, by the number
 abbrev pub partWords : ℕ → List ℕ → ℕ → ℕ → List ℕ
 partWords number b i n = unless number (take (4 * n) (drop (seatWord i) b)) []
+
+-- a part by the number: its words, and where they stand in the buffer where it is 0
+pub record PartBy (number : ℕ) (buffer : RefT (List ℕ)) (i n : ℕ) (r : RefT (List ℕ)) : Type 0 where
+  pub words-are : now r ≡ partWords number (now buffer) i n
+  pub place-is : number ≡ 0 → ptr r ≡ wordAt buffer (seatWord i)
 
 -- where the number is 0, the words are there
 abbrev pub PartThere : ℕ → List ℕ → ℕ → ℕ → Type 0

@@ -2,13 +2,13 @@
 // What is decided of a seat is decided in functions that take it by value; the calls on the lent slice read, call, store and return.
 ghost use mathlib.Core.Path.{_≡_};
 ghost use mathlib.Core.Bool.{_&&_};
-ghost use Prim.Native.Nat.{_<_, _≤_};
+ghost use Prim.Native.Nat.{_+_, _*_, _<_, _≤_};
 ghost use lib.ListN.{length};
-ghost use Rattle.regions.specs.Desk.{openAt, markFits, seatFits, deskFits, closed, limitAsked};
+ghost use Rattle.regions.specs.Desk.{openAt, markFits, seatFits, deskFits, closed, limitAsked, seatWord};
 ghost use Rattle.image.specs.Read.{setOf};
 ghost use Rattle.image.specs.Valid.{valid};
-ghost use Rattle.desk.specs.Promises.{OpensDesk, OpensSeat, ClosesSeat, Rounds, Parts, PartNumber};
-ghost use Rattle.desk.specs.Steps.{Opens, Closes, askedNo, partWords, PartThere, roundsNo, MayTurn, Hands, markRead, Turns};
+ghost use Rattle.desk.specs.Promises.{OpensDesk, OpensSeat, ClosesSeat, Rounds, PartNumber, LendsPart};
+ghost use Rattle.desk.specs.Steps.{Opens, Closes, askedNo, PartBy, PartThere, roundsNo, MayTurn, Hands, markRead, Turns};
 use regions::Kind;
 use regions::Mark;
 use regions::Open;
@@ -88,10 +88,10 @@ pub fn open_desk(desk: &mut [Seat]) -> u32
         return 11;
     }
     let s = closed_seat();
-    let mut i = 0;
-    while i < 8 {
-        desk[i] = s;
-        i += 1;
+    let mut at = 0;
+    while at < 8 {
+        desk[at] = s;
+        at += 1;
     }
     0
 }
@@ -224,7 +224,7 @@ pub fn part_number(desk: &[Seat], buffer: &[u32], i: u32, count: u32) -> u32
 // The words of a part where its number is 0, and none where it is refused.
 fn part_words<'a>(buffer: &'a [u32], number: u32, i: u32, count: u32) -> &'a [u32]
     requires { ⌜ PartThere number (now buffer) i count ⌝ }
-    ensures { λ r. ⌜ now r ≡ partWords number (now (buffer .entry)) i count ⌝ }
+    ensures { λ r. ⌜ PartBy number (buffer .entry) i count r ⌝ }
 {
     if number == 0 {
         let a = 128 * (i as usize);
@@ -236,7 +236,7 @@ fn part_words<'a>(buffer: &'a [u32], number: u32, i: u32, count: u32) -> &'a [u3
 
 // A partner's part: the lent words themselves.
 pub fn part<'a>(desk: &[Seat], buffer: &'a [u32], i: u32, count: u32) -> &'a [u32]
-    ensures { λ r. ⌜ Parts (now (desk .entry)) (now (buffer .entry)) i count (now r) ⌝ }
+    ensures { λ r. ⌜ LendsPart (now (desk .entry)) (buffer .entry) i count r ⌝ }
 {
     part_words(buffer, part_number(desk, buffer, i, count), i, count)
 }
@@ -275,11 +275,12 @@ pub struct Turn {
     pub counts: [u32; 8],
 }
 
-// How many pairs an open seat is handed in a turn, at most.
-fn pairs_a_turn(o: Open) -> usize
-    ensures { λ r. ⌜ r ≡ o .limit ⌝ }
+// Where seat i's part of the buffer ends in a turn: behind as many pairs as its limit.
+fn part_end(o: Open, i: usize) -> usize
+    requires { ⌜ i < 8 ⌝ }
+    ensures { λ r. ⌜ r ≡ seatWord i + 4 * o .limit ⌝ }
 {
-    o.limit as usize
+    128 * i + 4 * (o.limit as usize)
 }
 
 // Hands an open seat its next pairs: its part of the buffer, as long as its limit, is lent on to the join's writer, which tells how many it wrote.
@@ -290,7 +291,7 @@ fn hand(outer: &[u32], inner: &[u32], o: Open, buffer: &mut [u32], i: usize) -> 
     let kind = o.kind;
     let mark = o.mark;
     let a = 128 * i;
-    let e = a + 4 * pairs_a_turn(o);
+    let e = part_end(o, i);
     join::pairs_past(
         outer,
         inner,
@@ -440,7 +441,7 @@ pub fn round_by_value(outer: &[u32], inner: &[u32], seats: [Seat; 8], buffer: &m
 }
 
 pub fn part_by_value<'a>(seats: [Seat; 8], buffer: &'a [u32], i: u32, count: u32) -> &'a [u32]
-    ensures { λ r. ⌜ Parts seats (now (buffer .entry)) i count (now r) ⌝ }
+    ensures { λ r. ⌜ LendsPart seats (buffer .entry) i count r ⌝ }
 {
     part(&seats, buffer, i, count)
 }

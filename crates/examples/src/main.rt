@@ -191,7 +191,7 @@ fn outermost_first(outer: &mut [u32]) {
     check(b"the third", words::wide(out[8]), 30);
 }
 
-// Algorithm 4 would list a region that starts at the position; Algorithm 3 has no end for the last leaf.
+// Two traps of the source: a region that starts at the position is not its ancestor, and a walk along the leaves has to stop behind the last one.
 fn leaf_ends(outer: &mut [u32]) {
     open_outer(outer, 10);
     check(b"ancestors of a start", ancestors(outer, 60), 1);

@@ -10,9 +10,9 @@ use lib.Dec.{ltb, eqb}
 use lib.ListN.{length, getD, length-map, getD-replicate}
 use native.Mathlib.Omega.{arith}
 use native.Mathlib.Decide.{decLt}
-use Rattle.words.specs.Lists.{filter, some, All}
+use Rattle.words.specs.Lists.{filter, some, All, In}
 use Rattle.words.proofs.Tests.{T-of, of-T, and-left, and-right, and-false, by-test, not-true, eq-of, ne-of, eq-yes, lt-yes, lt-no, either}
-use Rattle.words.proofs.Listed.{all-mono, all-let, filter-append, filter-yes, filter-no, filter-none, filter-comm, filter-within, some-none}
+use Rattle.words.proofs.Listed.{all-mono, all-let, in-kept, in-all, filter-append, filter-yes, filter-no, filter-none, filter-comm, filter-within, some-none}
 use Rattle.regions.specs.declared.Region.{Region}
 use Rattle.regions.specs.declared.Seat.{Seat}
 use Rattle.regions.specs.Sets.{Set, isAt, isNotAt, heldAt, startsBefore, startsBehind, saved, deleted}
@@ -28,7 +28,7 @@ use Rattle.history.specs.Calls.{Which, State, setOf, withSet, withDesk, 
 use Rattle.history.specs.Calls.Which.{outer, inner}
 use Rattle.history.specs.Calls.Call.{save, delete, look, round, openSeat, closeSeat, askPart, askPartNo}
 use Rattle.history.specs.Calls.Run.{none, then}
-use Rattle.history.specs.Held.{isWhich, In, isDone, isAbout, decides, broughtBy, heldFrom, Stands, opensSeat, isRound, wroteFrom}
+use Rattle.history.specs.Held.{isWhich, isDone, isAbout, decides, broughtBy, heldFrom, Stands, opensSeat, isRound, wroteFrom}
 use Rattle.history.proofs.Good.{Good, good-set, good-next, good-opened, good-reached, round-answer, round-leaves}
 use Rattle.history.proofs.Relate.{unnoted-at, unnoted-off, desk-notes}
 use Rattle.history.proofs.Demand.{count-at}
@@ -143,16 +143,6 @@ pub held-at : (so si : List ℕ) {s t : State} {ds : List Done} → Opened so si
 held-at so si {s = s} {ds = ds} o r w p = held-run so si w p r (good-opened so si s o) ∙ ap (λ l. heldFrom w p l ds) (none-opened so si w p s o)
 
 -- A REGION in a list that ascends, by what stands at its start
-in-kept : {X : Type 0} (p : X → Bool) (x : X) (xs : List X) → In x (filter p xs) → In x xs
-unfolding filter
-in-kept p x [] h = h
-in-kept p x (y ∷ ys) h = by-test (p y) (λ e. ⊎-elim (λ q. inl q) (λ q. inr (in-kept p x ys q)) (rw e at h)) (λ e. inr (in-kept p x ys (rw e at h)))
-
-pub in-all : {X : Type 0} (P : X → Type 0) (x : X) (xs : List X) → In x xs → All P xs → P x
-in-all P x [] h k = absurd h
-in-all P x (y ∷ ys) (inl e) k = subst P (sym e) (k .0)
-in-all P x (y ∷ ys) (inr h) k = in-all P x ys h (k .1)
-
 in-at : (r : Region) (rs : List Region) → Rising rs → In r rs → filter (isAt (r .start)) rs ≡ r ∷ []
 in-at r [] h k = absurd k
 in-at r (x ∷ xs) h (inl e) =

@@ -11,9 +11,9 @@ use lib.ListN.{length, take, drop, getD, take-append-drop, List·getD-map}
 use lib.Seq.{take-add, getD-set-same, getD-set-other}
 use native.Mathlib.Omega.{arith}
 use native.Mathlib.Decide.{decLt}
-use Rattle.words.specs.Lists.{filter, some, All, lastOr}
+use Rattle.words.specs.Lists.{filter, some, All, In, lastOr}
 use Rattle.words.proofs.Tests.{T-of, of-T, off-T, and-left, and-right, or-false-left, or-false-right, not-true, by-test, eq-of, ne-of, eq-yes, eq-no, either}
-use Rattle.words.proofs.Listed.{all-mono, all-append, all-left, all-right, all-take, all-let, pairs-across, pairs-append, filter-none, filter-yes, filter-no, flat-append}
+use Rattle.words.proofs.Listed.{all-mono, all-append, all-left, all-right, all-take, all-let, in-all, pairs-across, pairs-append, filter-none, filter-yes, filter-no, flat-append}
 use Rattle.words.proofs.Says.{and-says, eq-says}
 use Rattle.regions.specs.declared.Kind.{Kind}
 use Rattle.regions.specs.declared.Mark.{Mark}
@@ -32,12 +32,12 @@ use Rattle.history.specs.Calls.Which.{outer, inner}
 use Rattle.history.specs.Calls.Look.{ancestorSearch, parentSearch, descendantSearch, childSearch, join}
 use Rattle.history.specs.Calls.Call.{save, delete, look, round, openSeat, closeSeat, askPart, askPartNo}
 use Rattle.history.specs.Calls.Run.{none, then}
-use Rattle.history.specs.Held.{isWhich, In, isRound}
+use Rattle.history.specs.Held.{isWhich, isRound}
 use Rattle.regions.specs.Sound.{Then, Ascending}
 use Rattle.history.specs.Long.{isPair, reaches, staysOpen, Stays, handedBy, handedIn, toldTo, roundsIn, touches, Quiet}
 use Rattle.history.proofs.Good.{Good, good-set, good-next, good-reached, round-answer, round-leaves}
 use Rattle.history.proofs.Demand.{after, take-min, words-at}
-use Rattle.history.proofs.Held.{in-all, is-which}
+use Rattle.history.proofs.Held.{is-which}
 
 -- THE SEAT behind a call that leaves it open: its mark is moved behind what it was handed
 moved-none : (o : Open) → openAt o ≡ openAt (moved o [])

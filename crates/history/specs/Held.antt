@@ -3,7 +3,6 @@
 -- Assumes nothing.
 use Prim.Native.Nat.{ℕ, _*_}
 use mathlib.Core.Path.{_≡_}
-use mathlib.Core.Logic.{_⊎_}
 use mathlib.Core.Bool.{Bool, true, false, _&&_, cond}
 use mathlib.Core.List.{List, [], _∷_, _++_}
 use lib.Dec.{ltb, eqb}
@@ -20,11 +19,6 @@ isWhich outer outer = true
 isWhich outer inner = false
 isWhich inner outer = false
 isWhich inner inner = true
-
--- a region stands in a list
-abbrev pub In : {X : Type 0} → X → List X → Type 0
-In x [] = ⊥
-In x (y ∷ ys) = (x ≡ y) ⊎ In x ys
 
 -- answered 0
 abbrev pub isDone : Shown → Bool

@@ -14,7 +14,7 @@ use Rattle.image.specs.Read.{depthOf, treeOf, setOf}
 unfoldable pub sized : List ℕ → Bool
 sized w = eqb (length w) imageWords && within 1 4 (heightOf w)
 
--- RULE 7: every page place, and every place of a stab record, is in the tree once or free
+-- RULE 7: each place, of a page or of a stab record, is either used by the tree, once, or marked as unused
 unfoldable pub rule7 : List ℕ → (h : ℕ) → Tree h → Bool
 rule7 w h t = placed (pageUsed w) pageCount (pagePlaces h t) && placed (recordUsed w) recordCount (recordPlaces h t)
 

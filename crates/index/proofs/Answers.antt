@@ -12,12 +12,16 @@ use Rattle.regions.specs.Numbers.{imageFirst}
 use Rattle.regions.specs.Positions.{wellBound}
 use Rattle.regions.specs.Calls.{regionWidth, regionWords, written, countWritten, moreRemain, foreign, pointNo, boundsNo, ancestors, parent, pairWidth, pairWords, joinNo, joined}
 use Rattle.regions.specs.declared.Region.{Region}
+use Rattle.regions.specs.Desk.{past}
 use Rattle.regions.specs.declared.Kind.{Kind}
+use Rattle.regions.specs.declared.Mark.the-variants.{Fresh}
+use Rattle.regions.proofs.Joined.{past-fresh}
 use Rattle.image.specs.Read.{setOf}
 use Rattle.image.specs.Valid.{valid}
 use Rattle.search.specs.Tallies.{foundList}
 use Rattle.search.specs.declared.Found.{Found}
 use Rattle.search.specs.declared.Found.the-variants.{Nothing as NotFound, At as FoundAt}
+use Rattle.join.specs.Joins.{Joined}
 use Rattle.index.specs.Joins.{JoinsSets}
 use Rattle.index.specs.Searches.{stepCount, FindsAncestors, parentNumber, parentFound, isRefusal, FindsParent, Lists}
 use Rattle.index.specs.declared.Parent.{Parent}
@@ -111,7 +115,13 @@ join-own u v a e f h = rw (e, f, lt-no 15 a h)
 pub join-refused : (u v : List ℕ) (a : ℕ) (k : Kind) (out : List ℕ) (n : ℕ) → (n ≡ 0 → ⊥) → n ≡ imageFirst (valid u && valid v) (joinNo a) → JoinsSets u v a k out n 0 out
 join-refused u v a k out n h e = record { number-is = e; refused = λ z. (refl, refl); done = λ z. absurd (h z) }
 
-pub join-found : (u v : List ℕ) (a : ℕ) (k : Kind) (out out′ : List ℕ) (total : ℕ) → valid u ≡ true → valid v ≡ true → a ≤ 15 → total ≡ length (joined (setOf u) (setOf v) a k)
-    → out′ ≡ written pairWords pairWidth out (joined (setOf u) (setOf v) a k) → JoinsSets u v a k out 0 total out′
-join-found u v a k out out′ total e f h t o =
-    record { number-is = join-own (valid u) (valid v) a e f h; refused = λ z. absurd (z refl); done = λ z. (t, o) }
+-- past no mark lie all pairs, and all are told
+pub join-found : (u v : List ℕ) (a : ℕ) (k : Kind) (out out′ : List ℕ) (total : ℕ) → valid u ≡ true → valid v ≡ true → a ≤ 15
+    → Joined (past Fresh (joined (setOf u) (setOf v) a k)) true out out′ total → JoinsSets u v a k out 0 total out′
+join-found u v a k out out′ total e f h j =
+    let all = past-fresh (joined (setOf u) (setOf v) a k) in
+    record {
+      number-is = join-own (valid u) (valid v) a e f h;
+      refused = λ z. absurd (z refl);
+      done = λ z. (j .total ∙ ap length all, j .words ∙ ap (written pairWords pairWidth out) all);
+    }

@@ -39,12 +39,12 @@ unfolding listed
 bare-regions = refl
 
 -- PLACES: none listed and none used; one listed, and used alone
-none-placed : (used : ℕ → Bool) (n : ℕ) → ((q : ℕ) → 1 ≤ q → q ≤ n → used q ≡ false) → onceOrFree used n [] ≡ true
+pub none-placed : (used : ℕ → Bool) (n : ℕ) → ((q : ℕ) → 1 ≤ q → q ≤ n → used q ≡ false) → onceOrFree used n [] ≡ true
 unfolding onceOrFree count
 none-placed used zero f = refl
 none-placed used (suc n) f = rw (f (suc n) (omega arith) (omega arith), none-placed used n (λ q a b. f q a (omega arith)))
 
-one-placed : (used : ℕ → Bool) (n : ℕ) → used 1 ≡ true → ((q : ℕ) → 1 < q → q ≤ n → used q ≡ false) → onceOrFree used n (1 ∷ []) ≡ true
+pub one-placed : (used : ℕ → Bool) (n : ℕ) → used 1 ≡ true → ((q : ℕ) → 1 < q → q ≤ n → used q ≡ false) → onceOrFree used n (1 ∷ []) ≡ true
 unfolding onceOrFree count
 one-placed used zero u f = refl
 one-placed used (suc zero) u f = rw u
@@ -67,7 +67,7 @@ module _ (shares : List ℕ) (sixteen : length shares ≡ 16) where
         | no l ↦ List·getD-eq-default (replicate 12270 0) 0 {n = j - 16} (simp length-replicate (omega arith))
       ]
 
-  opened-word : (j : ℕ) → 16 ≤ j → j ≢ 55 → getD (openedImage shares) (suc (suc j)) 0 ≡ 0
+  pub opened-word : (j : ℕ) → 16 ≤ j → j ≢ 55 → getD (openedImage shares) (suc (suc j)) 0 ≡ 0
   unfolding openedImage
   opened-word j h n = getD-set-other (shares ++ replicate 12270 0) 55 j 1 0 n ∙ past-shares j h
 

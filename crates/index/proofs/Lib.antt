@@ -4,3 +4,4 @@ pub mod Once
 pub mod Answers
 pub mod Changed
 pub mod Steps
+pub mod Exact

@@ -1,4 +1,5 @@
 pub mod Opening
 pub mod Changes
 pub mod Searches
+pub mod Exact
 pub mod Joins

@@ -13,6 +13,7 @@ ghost use Rattle.index.specs.Changes.{Saves, Deletes};
 ghost use Rattle.index.specs.Joins.{JoinsSets};
 ghost use Rattle.index.specs.Searches.{FindsAncestors, FindsParent, FindsDescendants, FindsChildren};
 use regions::Kind;
+use regions::Mark;
 use regions::Region;
 use search::Found;
 
@@ -273,6 +274,6 @@ pub fn join_sets(
             total: 0,
         };
     }
-    let total = join::join_all(outer, inner, account, kind, out);
+    let total = join::pairs_past(outer, inner, account, kind, Mark::Fresh, out, true);
     JoinedPairs { number: 0, total }
 }

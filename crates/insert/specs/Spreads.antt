@@ -30,6 +30,7 @@ pub record Settling (w : List ℕ) (h q i p low : ℕ) : Type 0 where
 
 pub record Settled (w w′ : List ℕ) (h q i p low : ℕ) (s : Settling w h q i p low) : Type 0 where
   pub kept : (size h (s .child-at .child) ≡ 9 → ⊥) → w′ ≡ w
+  -- `Split` itself: so its `key-made`, rule 2, holds of every split of a save
   pub cut : size h (s .child-at .child) ≡ 9 → Split w w′ h q i 4 (s .child-at)
 
 -- the words of a path, from word `at` on, are the places of the pages on x's way down a tree

@@ -17,10 +17,8 @@ use Rattle.regions.specs.Desk.{past}
 use Rattle.regions.specs.declared.Region.{Region}
 use Rattle.regions.specs.declared.Kind.{Kind}
 use Rattle.regions.specs.declared.Mark.{Mark}
-use Rattle.regions.specs.declared.Mark.the-variants.{Fresh}
 use Rattle.regions.proofs.Fits.{count-is}
 use Rattle.regions.specs.Sound.{Rising, Sound}
-use Rattle.regions.proofs.Joined.{past-fresh}
 use Rattle.image.specs.Read.{setOf}
 use Rattle.answers.specs.Items.{writtenFrom}
 use Rattle.answers.proofs.Items.{from-none, from-full, from-first}
@@ -38,7 +36,7 @@ use Rattle.stack.proofs.Stacked.{stacked-long}
 use Rattle.stack.proofs.Pairs.{paired-long, paired-whole}
 use Rattle.join.specs.declared.Stack.{Stack}
 use Rattle.join.specs.Places.{Placed, Behind}
-use Rattle.join.specs.Joins.{lowest, firstPosition, ownStep, Moved, Joined, JoinedAll}
+use Rattle.join.specs.Joins.{lowest, firstPosition, ownStep, Moved, Joined}
 use Rattle.join.proofs.Moves.{placed-behind, behind-later, placed-few, placed-pairs}
 use Rattle.join.proofs.Ahead.{from-fewer, position-low, pairsAt, pairsFrom, pairs-own, ahead-skip, ahead-own, ahead-other, ahead-none, ahead-all}
 use Rattle.join.proofs.Ways.{foreign-end, clear-next, clear-same}
@@ -246,8 +244,3 @@ module _ {w v : List ℕ} {a : ℕ} {k : Kind} {m : Mark} {all : Bool} {out₀ :
           few-total = omega (arith, g .few, stacked-long held′ (t′ .n), placed-few p few, j .few-total, fewer);
           stack = behind-later (omega (arith, next .far)) (omega (arith, next .far)) (placed-behind (omega arith) p);
         }
-
--- THE WHOLE JOIN: past no mark, all told
-pub joined-all : {qs : List Pair} {out out′ : List ℕ} {r : ℕ} → Joined (past Fresh qs) true out out′ r → JoinedAll qs out out′ r
-joined-all {qs} {out} {out′} {r} g =
-    record { words = g .words ∙ ap (written pairWords 4 out) (past-fresh qs); total = g .total ∙ ap length (past-fresh qs) }

@@ -56,7 +56,3 @@ pub record Moved (rs : List Region) (w : List ℕ) (p : ℕ) (on : Cursor) (met 
 pub record Joined (qs : List Pair) (all : Bool) (out out′ : List ℕ) (r : ℕ) : Type 0 where
   pub words : out′ ≡ written pairWords pairWidth out qs
   pub total : r ≡ cond all (length qs) (countWritten pairWidth out qs)
-
-pub record JoinedAll (qs : List Pair) (out out′ : List ℕ) (r : ℕ) : Type 0 where
-  pub words : out′ ≡ written pairWords pairWidth out qs
-  pub total : r ≡ length qs

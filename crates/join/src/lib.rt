@@ -9,13 +9,12 @@ ghost use Rattle.words.specs.Lists.{filter};
 ghost use Rattle.regions.specs.Sets.{startsFrom};
 ghost use Rattle.regions.specs.Calls.{joined};
 ghost use Rattle.regions.specs.Desk.{past};
-ghost use Rattle.regions.specs.declared.Mark.the-variants.{Fresh};
 ghost use Rattle.image.specs.Read.{setOf};
 ghost use Rattle.image.specs.Valid.{valid};
 ghost use Rattle.leaves.specs.Cursors.{stepFrom, startFaced};
 ghost use Rattle.leaves.specs.Faces.{Faces};
 ghost use Rattle.join.specs.Places.{Placed, Behind, Coming};
-ghost use Rattle.join.specs.Joins.{lowest, firstPosition, ownStep, Before, Moved, Joined, JoinedAll};
+ghost use Rattle.join.specs.Joins.{lowest, firstPosition, ownStep, Before, Moved, Joined};
 use leaves::Cursor;
 use leaves::Step;
 use regions::Kind;
@@ -264,14 +263,4 @@ pub fn pairs_past(
         return 0;
     }
     pairs_from(outer, inner, account, kind, mark, out, all, first, p)
-}
-
-// THE JOIN of two valid images: as many pairs as fit, and the total of all.
-pub fn join_all(outer: &[u32], inner: &[u32], account: u32, kind: Kind, out: &mut [u32]) -> usize
-    requires { ⌜ T (valid (now outer)) ⌝ }
-    requires { ⌜ T (valid (now inner)) ⌝ }
-    requires { ⌜ account ≤ 15 ⌝ }
-    ensures { λ r. ⌜ JoinedAll (joined (setOf (now (outer .entry))) (setOf (now (inner .entry))) account kind) (now (out .entry)) (now (out .exit)) r ⌝ }
-{
-    pairs_past(outer, inner, account, kind, Mark::Fresh, out, true)
 }

@@ -25,7 +25,7 @@ use Rattle.holding.proofs.Frames.{SamePage, SameRecord}
 use Rattle.standing.specs.Stands.{top, Roomy, Stands}
 use Rattle.standing.proofs.Counting.{all-counted, place-once, counted-used}
 use Rattle.records.specs.Touched.{Touched, Uses}
-use Rattle.steps.specs.Steps.{size, KidsFilled, rekeyed, moved, PairAt, Merged, nextPlaces}
+use Rattle.steps.specs.Steps.{size, KidsFilled, rekeyed, SameKey, moved, PairAt, Merged, nextPlaces}
 use Rattle.steps.proofs.Listed.{pair-listed, after-rekeyed, around-child, regions-keyless, leaves-keyless, pages-keyless, restRecords, pair-records}
 use Rattle.steps.proofs.Stays.{HeldAs, pagesBelow, recordsBelow, ownRecords, page-counts, pair-counts, page-number, pair-number, records-parts, words-stay, held-stored}
 use Rattle.merge.proofs.Listed.{joined-listed, joined-records}
@@ -54,6 +54,7 @@ pub record Stored (w w′ : List ℕ) (p : ℕ) (joined : List ℕ) (q : ℕ) (a
 pub record Made (w w₂ : List ℕ) (h q j : ℕ) (s : PairAt w h q j) (lws pws : List ℕ) : Type 0 where
   pub joined : Tree h
   pub key′ : Key
+  pub next-same : SameKey (s .post) key′
   pub freed : List ℕ
   pub touched : Touched w w₂ (s .key .places)
   pub uses : Uses w w₂ [] freed
@@ -263,6 +264,7 @@ module _ {w w₂ w₅ : List ℕ} {h q j : ℕ} {s : PairAt w h q j} {lws pws : 
       record {
         joined = m .joined;
         key′ = m .key′;
+        next-same = m .next-same;
         stands = record {
           long = t .long ∙ m .touched .long ∙ st .long;
           held = held-now;

@@ -1,4 +1,4 @@
--- Two inner pages as one: what `merge_inner` asks its callees for, and what it leaves.
+-- Two inner pages as one: what `inners` asks its callees for, and what it leaves.
 -- Assumes nothing.
 use Prim.Native.Nat.{ℕ, suc, _+_, _-_, _≤_}
 use mathlib.Core.Path.{_≡_, refl, sym, ap, ap₂, _∙_, subst}
@@ -34,7 +34,7 @@ use Rattle.merge.proofs.Stays.{every-pair}
 use Rattle.merge.proofs.Assemble.{pageThen, pageNow, Made, pair-listing, three, assemble}
 use Rattle.merge.proofs.Parts.{inner-part}
 use Rattle.store.specs.Store.{putPage, freePage}
-use Rattle.merge.proofs.Pairs.{stored, page-facts, part-back, leaving-pair, rest-fewer, took-records, above-made, left-is, right-is}
+use Rattle.merge.proofs.Pairs.{stored, page-facts, part-back, leaving-pair, rest-fewer, took-same, took-records, above-made, left-is, right-is}
 
 -- KEYS THAT TOOK PARTS OF A LIST: the children are the same, the records in all
 module _ {A : Type 0} where
@@ -189,6 +189,7 @@ module _ {w : List ℕ} {h q j : ℕ} (s : PairAt w (suc h) q j) where
       record {
         joined = innerNow;
         key′ = nextTook (s .post) (s .key);
+        next-same = took-same (s .post) (s .key);
         freed = [];
         touched = touched-in (touched-then (m .touched) (k .touched)) (s .key .places) (λ x a z. omega (arith, count-append x (s .key .places) placesNow, rest-fewer x (s .post) (s .key)));
         uses = uses-then (m .uses) (k .uses);
@@ -208,7 +209,7 @@ module _ {w : List ℕ} {h q j : ℕ} (s : PairAt w (suc h) q j) where
         kids-filled = λ f g. sunk-all (filledBelow h) (s .left .kids) restNow placesNow (s .left .last) keyNow (s .right .kids) (s .right .last) f g;
       }
 
--- THE CALLEES of `merge_inner`: both pages and the key fit into one
+-- THE CALLEES of `inners`: both pages and the key fit into one
 pub inners-fit : {w : List ℕ} {q j : ℕ} → InnersFit w q j → {page a b : List ℕ} → page ≡ pageOf w q → a ≡ pageOf w (getD page (39 + j) 0) → b ≡ pageOf w (getD page (39 + (j + 1)) 0) → fillOf a + fillOf b ≤ 8
 inners-fit {w} f e ea eb =
     let s = f .pair in
@@ -223,7 +224,7 @@ pub sinking-loaded : {w w₁ : List ℕ} {h q j : ℕ} (s : PairAt w (suc h) q j
 sinking-loaded {w} {w₁} {j = j} s {r = r} e ea g =
     subst (λ v. Sinking w₁ v (r .rest)) (sym (ea ∙ ap (pageOf w) (left-is s e))) (sinking-pair s (subst (λ ws. (s : Leaving w ws j) → HandedOn w w₁ ws j s r) e g (leaving-pair s)))
 
-pub merge-inner-law : (w w₁ w₂ w₅ page a b joined : List ℕ) (q j : ℕ) (r low : Handed) → InnersFit w q j
+pub inners-law : (w w₁ w₂ w₅ page a b joined : List ℕ) (q j : ℕ) (r low : Handed) → InnersFit w q j
     → page ≡ pageOf w q → a ≡ pageOf w (getD page (39 + j) 0) → b ≡ pageOf w (getD page (39 + (j + 1)) 0)
     → ((s : Leaving w page j) → HandedOn w w₁ page j s r)
     → ((s : Sinking w₁ a (r .rest)) → Sank w₁ w₂ a (r .rest) s low)
@@ -231,7 +232,7 @@ pub merge-inner-law : (w w₁ w₂ w₅ page a b joined : List ℕ) (q j : ℕ) 
     → length w₂ ≡ 12288 → length joined ≡ 57
     → w₅ ≡ freePage (putPage (putPage w₂ (getD page (39 + j) 0) joined) q (r .page)) (getD page (39 + (j + 1)) 0)
     → (h : ℕ) (s : PairAt w (suc h) q j) → Merged w w₅ (suc h) q j s
-merge-inner-law w w₁ w₂ w₅ page a b joined q j r low f e ea eb g k i l n e₅ h s =
+inners-law w w₁ w₂ w₅ page a b joined q j r low f e ea eb g k i l n e₅ h s =
     let x = left-is s e in
     let y = right-is s e in
     let a′ : a ≡ pageOf w (s .left .place) = ea ∙ ap (pageOf w) x in

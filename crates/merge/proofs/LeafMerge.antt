@@ -1,4 +1,4 @@
--- Two leaves as one: what `merge_leaf` asks its callees for, and what it leaves.
+-- Two leaves as one: what `leaves` asks its callees for, and what it leaves.
 -- Assumes nothing.
 use Prim.Native.Nat.{ℕ, _+_, _-_, _≤_}
 use mathlib.Core.Path.{_≡_, refl, sym, ap, ap₂, _∙_, subst}
@@ -32,7 +32,7 @@ use Rattle.merge.proofs.Assemble.{pageThen, pageNow, Made, three, assem
 use Rattle.merge.proofs.Parts.{leaf-part}
 use Rattle.merge.proofs.Clearing.{listAt, entries-long}
 use Rattle.store.specs.Store.{putPage, freePage}
-use Rattle.merge.proofs.Pairs.{stored, page-facts, part-back, leaving-pair, rest-used, rest-fewer, took-records, above-made, left-is, right-is}
+use Rattle.merge.proofs.Pairs.{stored, page-facts, part-back, leaving-pair, rest-used, rest-fewer, took-same, took-records, above-made, left-is, right-is}
 
 module _ {w : List ℕ} {q j : ℕ} (s : PairAt w 0 q j) where
   abbrev pub leafNow : Leaf
@@ -80,6 +80,7 @@ module _ {w : List ℕ} {q j : ℕ} (s : PairAt w 0 q j) where
       record {
         joined = leafNow;
         key′ = nextTook (s .post) (s .key);
+        next-same = took-same (s .post) (s .key);
         freed = restPlaces (s .post) (s .key);
         touched = touched-in (touched-then (m .touched) (d .touched)) (s .key .places) (λ x a z. omega (arith, count-both x, rest-fewer x (s .post) (s .key)));
         uses = uses-then (m .uses) (d .uses);
@@ -106,13 +107,13 @@ module _ {w : List ℕ} {q j : ℕ} (s : PairAt w 0 q j) where
       count-both : (x : ℕ) → count x (s .key .places ++ restPlaces (s .post) (s .key)) ≡ count x (s .key .places) + count x (restPlaces (s .post) (s .key))
       count-both x = count-append x (s .key .places) (restPlaces (s .post) (s .key))
 
--- THE CALLEES of `merge_leaf`: both leaves fit into one
+-- THE CALLEES of `leaves`: both leaves fit into one
 pub leaves-fit : {w : List ℕ} {q j : ℕ} → LeavesFit w q j → {page a b : List ℕ} → page ≡ pageOf w q → a ≡ pageOf w (getD page (39 + j) 0) → b ≡ pageOf w (getD page (39 + (j + 1)) 0) → fillOf a + fillOf b ≤ 9
 leaves-fit {w} f e ea eb =
     let s = f .pair in
     omega (arith, f .fit, ap fillOf (ea ∙ ap (pageOf w) (left-is s e)), ap fillOf (eb ∙ ap (pageOf w) (right-is s e)), fill-left s, fill-right s)
 
-pub merge-leaf-law : (w w₁ w₂ w₅ page a b joined leaf : List ℕ) (q j : ℕ) (r : Handed) → LeavesFit w q j
+pub leaves-law : (w w₁ w₂ w₅ page a b joined leaf : List ℕ) (q j : ℕ) (r : Handed) → LeavesFit w q j
     → page ≡ pageOf w q → a ≡ pageOf w (getD page (39 + j) 0) → b ≡ pageOf w (getD page (39 + (j + 1)) 0)
     → IsLeaf joined (markOf a) (fillOf a + fillOf b) (nextOf b) (entriesOf a ++ entriesOf b) (sparesOf a ++ sparesOf b)
     → ((s : Leaving w page j) → HandedOn w w₁ page j s r)
@@ -121,7 +122,7 @@ pub merge-leaf-law : (w w₁ w₂ w₅ page a b joined leaf : List ℕ) (q j : �
     → length w₂ ≡ 12288 → length leaf ≡ 57
     → w₅ ≡ freePage (putPage (putPage w₂ (getD page (39 + j) 0) leaf) q (r .page)) (getD page (39 + (j + 1)) 0)
     → (s : PairAt w 0 q j) → Merged w w₅ 0 q j s
-merge-leaf-law w w₁ w₂ w₅ page a b joined leaf q j r f e ea eb i g k d l n e₅ s =
+leaves-law w w₁ w₂ w₅ page a b joined leaf q j r f e ea eb i g k d l n e₅ s =
     let x = left-is s e in
     let y = right-is s e in
     let a′ : a ≡ pageOf w (s .left .place) = ea ∙ ap (pageOf w) x in

@@ -29,7 +29,7 @@ use Rattle.store.proofs.Frames.{put-page-long, put-page-here, put-page-other, p
 use Rattle.pagework.specs.Pages.{takenOut, keysOf}
 use Rattle.pagework.proofs.Read.{child-in}
 use Rattle.records.specs.Touched.{Touched, Uses, AllUsed, Ends}
-use Rattle.steps.specs.Steps.{rekeyed, PairAt, nextPlaces}
+use Rattle.steps.specs.Steps.{SameKey, rekeyed, PairAt, nextPlaces}
 use Rattle.steps.proofs.Listed.{pair-listed, regions-keyless}
 use Rattle.steps.proofs.Stays.{records-parts}
 use Rattle.merge.specs.declared.Handed.{Handed}
@@ -110,6 +110,11 @@ module _ {A : Type 0} where
   took-records x (atKey j cs last) k =
       omega (arith, count-append x (movedPlaces (j .key) (k .list) (k .places)) (j .places), count-cut x (length (takeWhile (stabs (j .key)) (k .list))) (k .places))
   took-records x atEnd k = omega arith
+
+  -- the next key stays the one it was
+  pub took-same : (post : Post A) (k : Key) → SameKey post (nextTook post k)
+  took-same (atKey j cs last) k = refl
+  took-same atEnd k = tt
 
   pub rest-fewer : (x : ℕ) (post : Post A) (k : Key) → count x (restPlaces post k) ≤ count x (k .places)
   rest-fewer x (atKey j cs last) k = omega (arith, count-cut x (length (takeWhile (stabs (j .key)) (k .list))) (k .places))

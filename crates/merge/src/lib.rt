@@ -1,7 +1,7 @@
 // Merges of two neighbouring children of a page, leaves or inner pages, with the stab lists that this changes.
 // Pages are worked out by value and stored at the end; before that only words of stab records are written.
 ghost use mathlib.Core.Path.{_≡_};
-ghost use mathlib.Core.List.{List, map};
+ghost use mathlib.Core.List.{map};
 ghost use Prim.Native.Nat.{ℕ, suc, _+_, _<_, _≤_};
 ghost use lib.ListN.{length, getD};
 ghost use Rattle.pages.specs.Layout.{markOf, fillOf, nextOf};
@@ -128,11 +128,12 @@ fn store_merged(img: &mut [u32], left: u32, joined: [u32; 57], q: u32, above: [u
     store::free_page(img, right);
 }
 
-// Children j and j + 1 of page q, leaves, become one; the key between them goes. What the next key does not take of its list is in no list any more.
-fn merge_leaf(img: &mut [u32], q: u32, j: usize)
-    requires { ⌜ LeavesFit (now img) q j ⌝ }
-    ensures { λ _. ⌜ ((s : PairAt (now (img .entry)) 0 q j) → Merged (now (img .entry)) (now (img .exit)) 0 q j s) ⌝ }
+// Children j and j + 1 of page number `at` of a path, leaves, become one; the key between them goes. What the next key does not take of its list is in no list any more.
+pub fn leaves(img: &mut [u32], path: [u32; 4], at: usize, j: usize)
+    requires { ⌜ (at < 4) × LeavesFit (now img) (getD path at 0) j ⌝ }
+    ensures { λ _. ⌜ ((s : PairAt (now (img .entry)) 0 (getD path at 0) j) → Merged (now (img .entry)) (now (img .exit)) 0 (getD path at 0) j s) ⌝ }
 {
+    let q = path[at];
     let page = store::load_page(img, q);
     let left = page[39 + j];
     let right = page[39 + (j + 1)];
@@ -148,10 +149,11 @@ fn merge_leaf(img: &mut [u32], q: u32, j: usize)
 }
 
 // Inner pages likewise: the key between them comes down, with what no key above or on its left takes of its list.
-fn merge_inner(img: &mut [u32], q: u32, j: usize)
-    requires { ⌜ InnersFit (now img) q j ⌝ }
-    ensures { λ _. ⌜ ((h : ℕ) (s : PairAt (now (img .entry)) (suc h) q j) → Merged (now (img .entry)) (now (img .exit)) (suc h) q j s) ⌝ }
+pub fn inners(img: &mut [u32], path: [u32; 4], at: usize, j: usize)
+    requires { ⌜ (at < 4) × InnersFit (now img) (getD path at 0) j ⌝ }
+    ensures { λ _. ⌜ ((h : ℕ) (s : PairAt (now (img .entry)) (suc h) (getD path at 0) j) → Merged (now (img .entry)) (now (img .exit)) (suc h) (getD path at 0) j s) ⌝ }
 {
+    let q = path[at];
     let page = store::load_page(img, q);
     let left = page[39 + j];
     let right = page[39 + (j + 1)];
@@ -165,20 +167,4 @@ fn merge_inner(img: &mut [u32], q: u32, j: usize)
     let lower = sunk.page;
     let joined = pagework::inner_joined(lower, key, b);
     store_merged(img, left, joined, q, above, right);
-}
-
-// The merge of leaves along a path: the page above them is page number `at` of the path.
-pub fn leaves(img: &mut [u32], path: [u32; 4], at: usize, j: usize)
-    requires { ⌜ (at < 4) × LeavesFit (now img) (getD path at 0) j ⌝ }
-    ensures { λ _. ⌜ ((s : PairAt (now (img .entry)) 0 (getD path at 0) j) → Merged (now (img .entry)) (now (img .exit)) 0 (getD path at 0) j s) ⌝ }
-{
-    merge_leaf(img, path[at], j);
-}
-
-// The merge of inner pages, likewise.
-pub fn inners(img: &mut [u32], path: [u32; 4], at: usize, j: usize)
-    requires { ⌜ (at < 4) × InnersFit (now img) (getD path at 0) j ⌝ }
-    ensures { λ _. ⌜ ((h : ℕ) (s : PairAt (now (img .entry)) (suc h) (getD path at 0) j) → Merged (now (img .entry)) (now (img .exit)) (suc h) (getD path at 0) j s) ⌝ }
-{
-    merge_inner(img, path[at], j);
 }

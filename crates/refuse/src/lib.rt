@@ -9,7 +9,7 @@ ghost use Rattle.image.specs.Read.{setOf};
 ghost use Rattle.image.specs.Valid.{valid};
 use regions::Region;
 
-// Whether a region with that start is held.
+// Whether the set has a region that starts there.
 fn is_held(img: &[u32], start: u32) -> bool
     requires { ⌜ T (valid (now img)) ⌝ }
     ensures { λ r. ⌜ r ≡ heldAt start (setOf (now (img .entry))) ⌝ }

@@ -139,7 +139,7 @@ counts X Y desk = map (countHanded X Y) desk
 unfoldable pub roundNo : List Seat → List ℕ → ℕ
 roundNo desk buffer = firstNo ((not (deskFits desk && bufferFits buffer), DESK) ∷ [])
 
--- A PART: four times the stated count of words from the seat's first word on, in the order DESK, SEAT, LIMIT
+-- A PART: the seat's words of so many pairs, from its first word on. Tested in the order DESK, SEAT, LIMIT
 unfoldable pub partNo : List Seat → List ℕ → ℕ → ℕ → ℕ
 partNo desk buffer i n =
     firstNo

@@ -12,29 +12,29 @@ document p = p / 65536
 abbrev pub account : ℕ → ℕ
 account p = p / 268435456
 
--- search bounds: the start comes first, and both lie in one document
+-- the bounds of a search: they ascend and stay within a document
 unfoldable pub wellBound : ℕ → ℕ → Bool
 wellBound s e = ltb s e && eqb (document s) (document e)
 
--- a region: so its start and end, and its level is 1 to 255. The reference is any number
+-- a region: its two positions are such bounds, and it has a level from 1 to 255; of its reference nothing is asked
 unfoldable pub wellFormed : Region → Bool
 wellFormed r = wellBound (r .start) (r .end) && (leb 1 (r .level) && leb (r .level) 255)
 
--- x ends before y starts; x has the smaller start and the larger end
+-- x ends before y starts; x starts before y and ends behind it
 unfoldable pub endsBefore : Region → Region → Bool
 endsBefore x y = ltb (x .end) (y .start)
 
 unfoldable pub contains : Region → Region → Bool
 contains x y = ltb (x .start) (y .start) && ltb (y .end) (x .end)
 
--- nested rightly, either way round; all else crosses, a shared endpoint included
+-- nested rightly, either way round. Whatever is not crosses: two regions that share an end position do
 unfoldable pub nested : Region → Region → Bool
 nested x y = (endsBefore x y || endsBefore y x) || (contains x y || contains y x)
 
 unfoldable pub crosses : Region → Region → Bool
 crosses x y = not (nested x y)
 
--- a key stabs a region ("A valid image", rule 3)
+-- a key inside a region, or at either end of it, stabs it ("A valid image", rule 3)
 unfoldable pub stabs : ℕ → Region → Bool
 stabs k r = leb (r .start) k && leb k (r .end)
 

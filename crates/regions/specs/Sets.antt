@@ -31,7 +31,7 @@ heldBy a S = length (filter (of a) (S .regions))
 abbrev pub shareOf : ℕ → Set → ℕ
 shareOf a S = getD (S .shares) a 0
 
--- a region with that start is held; a held region is crossed
+-- some region of the set starts there; some region of the set is crossed
 unfoldable pub isAt : ℕ → Region → Bool
 isAt s r = eqb (r .start) s
 

@@ -26,7 +26,7 @@ fn merge_pages(img: &mut [u32], path: [u32; 4], at: usize, j: usize, inner: usiz
     }
 }
 
-// Child i of page number `at` of the path keeps its first c entries or keys, the rest goes to a new page on its right.
+// Child i of page number `at` of the path keeps its first c entries or keys, the rest goes to a new page on its right. It promises `Split` itself: so its `key-made`, rule 2, holds of every split of a delete.
 fn split_page(img: &mut [u32], path: [u32; 4], at: usize, i: usize, c: usize, inner: usize)
     requires { ⌜ (at < 4) × SplitAsk (now img) (getD path at 0) i c inner ⌝ }
     ensures { λ _. ⌜ ((s : SplitAsk (now (img .entry)) (getD path at 0) i c inner) → Split (now (img .entry)) (now (img .exit)) (s .h) (getD path at 0) i c (s .child-at)) ⌝ }

@@ -7,7 +7,7 @@ use mathlib.Core.Logic.{_↔_}
 use mathlib.Core.Bool.{Bool, true, false}
 use mathlib.Core.List.{List, []}
 use lib.ListN.{length, drop, getD}
-use Rattle.words.specs.Lists.{filter}
+use Rattle.words.specs.Lists.{filter, In}
 use Rattle.regions.specs.declared.Region.{Region}
 use Rattle.regions.specs.declared.Open.{Open}
 use Rattle.regions.specs.Positions.{account, wellFormed}
@@ -18,7 +18,7 @@ use Rattle.image.specs.Read.{setOf as setIn}
 use Rattle.history.specs.Calls.{Which, sharesGiven, Fair, Call, Shown, Answer, Step, Done, callsOf, shareGiven, byAccount, leftOut, Same, Agree, left, Served, Passed, next}
 use Rattle.history.specs.Calls.Which.{outer, inner}
 use Rattle.history.specs.Calls.Call.{save, round}
-use Rattle.history.specs.Held.{In, heldFrom, Stands, wroteFrom}
+use Rattle.history.specs.Held.{heldFrom, Stands, wroteFrom}
 use Rattle.history.proofs.Good.{good-reached, never}
 use Rattle.history.proofs.Demand.{theorem-a, theorem-b, theorem-b-rest, theorem-c, theorem-c-whole}
 use Rattle.history.proofs.Held.{held-at, theorem-held, theorem-sound, theorem-few, theorem-wrote}

@@ -1,2 +1,4 @@
 pub mod Meaning
 pub mod Demand
+pub mod Alone
+pub mod Witness

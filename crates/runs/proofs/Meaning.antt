@@ -15,7 +15,7 @@ use Rattle.regions.specs.declared.Seat.{Seat}
 use Rattle.regions.specs.Numbers.{unless, imageFirst}
 use Rattle.regions.specs.Sets.{Set, saved, deleted}
 use Rattle.regions.specs.Calls.{written, countWritten, moreRemain, regionWidth, regionWords, openSetNo, saveNo, deleteNo, pointNo, ancestors, parent, boundsNo, descendants, children, Pair, joined, joinNo, pairWidth, pairWords}
-use Rattle.regions.specs.Desk.{seatAt, openSeatNo, closeSeatNo, turned, handedWords, countHanded, counts, poured, served}
+use Rattle.regions.specs.Desk.{seatAt, openSeatNo, closeSeatNo, turned, handedWords, countHanded, counts, poured, served, part}
 use Rattle.regions.proofs.Seats.{handed-long, handed-fits, poured-long, poured-in}
 use Rattle.image.specs.Read.{setOf as setIn}
 use Rattle.image.specs.Valid.{valid}
@@ -254,7 +254,7 @@ means so si {l = l} notes (closesSeat {number = num} {desk′ = desk′} i h) g 
       },
       valid-seats l desk′ (l .buffer) k,
     )
-means so si notes (parts i n h) g k = (record { answers = ap handsBack (h .words-are); leaves = refl }, k)
+means so si {l = l} notes (parts i n e h) g k = (record { answers = ap handsBack (h .part-is .words-are ∙ ap (λ b. part (l .desk) b i n) e); leaves = refl }, k)
 means so si notes (partNumbers i n h) g k = (record { answers = ap says (h .number-is); leaves = refl }, k)
 
 -- so is every run

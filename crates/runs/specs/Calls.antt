@@ -5,6 +5,7 @@ use mathlib.Core.Path.{_≡_}
 use mathlib.Core.Bool.{Bool, true, false}
 use mathlib.Core.List.{List, [], _∷_}
 use lib.ListN.{length, take, drop, replicate}
+use denote.Ref.{RefT, now}
 use Rattle.regions.specs.declared.Region.{Region}
 use Rattle.regions.specs.declared.Kind.{Kind}
 use Rattle.regions.specs.declared.Open.{Open}
@@ -19,7 +20,7 @@ use Rattle.index.specs.Opening.{OpensSet}
 use Rattle.index.specs.Changes.{Saves, Deletes}
 use Rattle.index.specs.Searches.{FindsAncestors, FindsParent, FindsDescendants, FindsChildren, parentNumber, parentFound}
 use Rattle.index.specs.Joins.{JoinsSets}
-use Rattle.desk.specs.Promises.{OpensDesk, OpensSeat, ClosesSeat, Rounds, Parts, PartNumber}
+use Rattle.desk.specs.Promises.{OpensDesk, OpensSeat, ClosesSeat, Rounds, LendsPart, PartNumber}
 use Rattle.history.specs.Calls.{Which, State, Call, Shown, Answer, Done, left, Served, Passed}
 use Rattle.history.specs.Calls.Which.{outer, inner}
 use Rattle.history.specs.Calls.Look.{ancestorSearch, parentSearch, descendantSearch, childSearch, join}
@@ -84,7 +85,9 @@ pub data Does : Lent → Call → Answer → Lent → Type 0 where
       → Does l (openSeat i a k limit) (tells number 0 false [] [] 0) (withSeats desk′ (l .buffer) l)
   closesSeat : {l : Lent} {number : ℕ} {desk′ : List Seat} (i : ℕ) → ClosesSeat (l .desk) i number desk′
       → Does l (closeSeat i) (tells number 0 false [] [] 0) (withSeats desk′ (l .buffer) l)
-  parts : {l : Lent} {words : List ℕ} (i n : ℕ) → Parts (l .desk) (l .buffer) i n words → Does l (askPart i n) (tells 0 0 false [] words 0) l
+  -- the buffer is lent as some reference, of which the part is a part; what is told is its words
+  parts : {l : Lent} {buffer r : RefT (List ℕ)} (i n : ℕ) → now buffer ≡ l .buffer → LendsPart (l .desk) buffer i n r
+      → Does l (askPart i n) (tells 0 0 false [] (now r) 0) l
   partNumbers : {l : Lent} {number : ℕ} (i n : ℕ) → PartNumber (l .desk) (l .buffer) i n number → Does l (askPartNo i n) (tells number 0 false [] [] 0) l
 
 -- A RUN: call after call, and nobody else writes in between

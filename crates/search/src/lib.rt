@@ -98,7 +98,7 @@ fn walk_list(img: &[u32], head: u32, p: u32, task: Task, out: &mut [u32], start:
     t
 }
 
-// The list of key i, which is looked at only where its stored pair strictly holds p.
+// The list of key i: its stored pair tells whether there is anything to find in it.
 fn key_list(
     img: &[u32],
     page: u32,
@@ -122,7 +122,7 @@ fn key_list(
     walk_list(img, k.head, p, task, out, t)
 }
 
-// The lists of an inner page, from the left: those of the keys that are not greater than p, and of the first that is. Lower keys come first, so that outer regions do.
+// The lists of an inner page, key by key from the left, up to the first key beyond p, whose list may hold ancestors too. Outer regions stand with lower keys, so they are met first.
 fn page_lists(img: &[u32], page: u32, p: u32, task: Task, out: &mut [u32], start: Tally) -> Tally
     requires { ⌜ fillOf (pageOf (now img) page) ≤ 8 ⌝ }
     requires { ⌜ Small 30000 start ⌝ }

@@ -87,7 +87,7 @@ woven-key k one w = over w
 woven-key k (more v) w = more (woven-key k v w)
 woven-key k (over v) w = over (woven-key k v w)
 
--- a key is at most every start on its right
+-- nothing right of a key starts before it
 key-below : (k : ℕ) (xs : List Item) → All (Separates (key k)) xs → All (λ s. k ≤ s) (each startIn xs)
 key-below k [] h = tt
 key-below k (start s ∷ xs) h = (h .0, key-below k xs (h .1))

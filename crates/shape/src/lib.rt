@@ -1,5 +1,5 @@
-// Decides the first part of an image's validity, its shape: size, fills, links between leaves, order of starts and keys, and that each page place is
-// in the tree once or free. The tree is walked from left to right; no place is trusted before it was tested.
+// Decides the first part of an image's validity, its shape: size, fills, links between leaves, order of starts and keys, and that each place of a page
+// is either met once on the walk or marked as unused. The tree is walked from left to right; no place is trusted before it was tested.
 ghost use mathlib.Core.Path.{_≡_};
 ghost use Prim.Native.Nat.{_<_, _≤_};
 ghost use Rattle.pages.specs.Layout.{pageOf, fillOf};

@@ -24,7 +24,7 @@ use Rattle.holding.specs.Held.{placeOf, PageHeld, Held}
 use Rattle.holding.proofs.Frames.{SamePage, SameRecord}
 use Rattle.standing.specs.Stands.{top, Roomy, Stands}
 use Rattle.standing.proofs.Counting.{all-counted, place-once, free-uncounted, counted-used}
-use Rattle.steps.specs.Steps.{size, KidsFilled, rekeyed, moved, ChildAt, pageHere, Split, nextPlaces}
+use Rattle.steps.specs.Steps.{size, KidsFilled, rekeyed, SameKey, moved, KeyMade, ChildAt, pageHere, Split, nextPlaces}
 use Rattle.steps.proofs.Listed.{page-listed, after-rekeyed, around-child, regions-keyless, leaves-keyless, pages-keyless, restRecords, page-records}
 use Rattle.steps.proofs.Stays.{HeldAs, pagesBelow, recordsBelow, ownRecords, page-counts, pair-counts, page-number, pair-number, records-parts, words-stay, held-stored}
 use Rattle.split.specs.Stored.{Stored}
@@ -40,6 +40,8 @@ pub record Made (w w₂ : List ℕ) (h q i c : ℕ) (s : ChildAt w h q i) (r : �
   pub right : Tree h
   pub key : Key
   pub key′ : Key
+  pub key-made : KeyMade h (s .child) left right (key .key)
+  pub next-same : SameKey (s .post) key′
   -- records: those taken, those written
   pub fresh : List ℕ
   pub touched : List ℕ
@@ -251,6 +253,8 @@ module _ {w w₂ w₅ : List ℕ} {h q i c : ℕ} {s : ChildAt w h q i} {r : ℕ
         right = m .right;
         key = m .key;
         key′ = m .key′;
+        key-made = m .key-made;
+        next-same = m .next-same;
         stands = record {
           long = t .long ∙ m .long ∙ st .long;
           held = held-now;

@@ -8,7 +8,7 @@ use lib.Dec.{T}
 use lib.ListN.{length, take, drop}
 use native.Mathlib.Omega.{arith}
 use Rattle.words.proofs.Tests.{and-left, and-right, and-both}
-use Rattle.xrtree.specs.Tree.{Key, weave, allKids}
+use Rattle.xrtree.specs.Tree.{Key, weave, keysIn, allKids}
 use Rattle.xrtree.proofs.Splice.{trim}
 use Rattle.xrtree.proofs.Split.{weave-two}
 use Rattle.holding.specs.Held.{kidPlaces, EveryKid}
@@ -32,6 +32,12 @@ module _ {A : Type 0} where
   unfolding trim
   trim-long k [] = refl
   trim-long k (c ∷ cs) = ap suc (trim-long k cs)
+
+  -- the keys
+  pub keys-cut : (n : ℕ) (ls : List (A × Key)) (m : A) (k : Key) (bs : List (A × Key)) → keysIn (trim n ls) ++ k .key ∷ keysIn bs ≡ keysIn (ls ++ (m, k) ∷ bs)
+  unfolding trim keysIn
+  keys-cut n [] m k bs = refl
+  keys-cut n (c ∷ ls) m k bs = ap (c .1 .key ∷_) (keys-cut n ls m k bs)
 
   -- the places of the children
   pub places-left : (place : A → ℕ) (n : ℕ) (ls : List (A × Key)) (m : A) (k : Key) (bs : List (A × Key)) (z : A) → take (suc (length ls)) (kidPlaces place (ls ++ (m, k) ∷ bs) z) ≡ kidPlaces place (trim n ls) m

@@ -1,4 +1,4 @@
--- What `split_inner` hands to the functions it calls, and what it has at its end: by the values of its locals.
+-- What `inner` hands to the functions it calls, and what it has at its end: by the values of its locals.
 -- Assumes nothing.
 use Prim.Native.Nat.{ℕ, suc, _-_, _≤_, _<_}
 use mathlib.Core.Path.{_≡_, sym, ap, _∙_, subst}

@@ -9,7 +9,7 @@ use lib.Seq.{take-at, drop-append-add}
 use native.Mathlib.Omega.{arith}
 use Rattle.words.specs.Lists.{count}
 use Rattle.words.proofs.Counted.{count-append}
-use Rattle.xrtree.specs.Tree.{Key, Leaf, Tree, weave, listed, listPages, listRecords, regions, leaves}
+use Rattle.xrtree.specs.Tree.{Key, Leaf, Tree, weave, listed, keysIn, listPages, listRecords, regions, leaves}
 use Rattle.xrtree.specs.Rules.{linked, filledBelow}
 use Rattle.xrtree.proofs.Claims.{pageAt, Claim}
 use Rattle.xrtree.proofs.Local.{NoLeaf}
@@ -33,8 +33,8 @@ use Rattle.split.specs.declared.Risen.{Risen}
 use Rattle.split.proofs.Parts.{inner-part}
 use Rattle.split.proofs.Assemble.{Made}
 use Rattle.split.proofs.Keys.{records-count, keys-split, untouched, trim-counts}
-use Rattle.split.proofs.Seen.{child-stands, q-mark, p-mark, records-once, enter-ready, long-more, topped-counts}
-use Rattle.split.proofs.Cuts.{Mid, mid-at, trim-long, places-left, places-right, every-cut, all-cut, listed-cut}
+use Rattle.split.proofs.Seen.{cut-same, child-stands, q-mark, p-mark, records-once, enter-ready, long-more, topped-counts}
+use Rattle.split.proofs.Cuts.{Mid, mid-at, trim-long, keys-cut, places-left, places-right, every-cut, all-cut, listed-cut}
 
 -- the next key's records are among the page's
 next-among : {A : Type 0} (x : ℕ) (pre : List (A × Key)) (post : Post A) (t : A) → count x (nextPlaces post) ≤ count x (keyRecords (fillKids pre post t))
@@ -182,6 +182,8 @@ module _ {w : List ℕ} {h q i c : ℕ} (s : InnerReady w h q i c) where
             right = pageAt r (cutAt .bs) (a .child .last);
             key = topped k (a .post) upPlaces (raised k (cutAt .ls) (cutAt .k .list));
             key′ = nextCut k (a .post);
+            key-made = keys-cut k (cutAt .ls) (cutAt .m) (cutAt .k) (cutAt .bs) ∙ ap keysIn (cutAt .is);
+            next-same = cut-same k (a .post);
             fresh = [];
             touched = keyRecords (cutAt .ls) ++ nextPlaces (a .post);
             long = both-touched .long;

@@ -1,4 +1,4 @@
--- What `split_leaf` hands to the functions it calls, and what it has at its end: by the values of its locals.
+-- What `leaf` hands to the functions it calls, and what it has at its end: by the values of its locals.
 -- Assumes nothing.
 use Prim.Native.Nat.{ℕ, _+_, _-_, _≤_, _<_}
 use mathlib.Core.Path.{_≡_, sym, ap, _∙_, subst}
@@ -7,6 +7,7 @@ use mathlib.Core.List.{List}
 use lib.ListN.{length, take, drop}
 use native.Mathlib.Omega.{arith}
 use Rattle.xrtree.specs.Rules.{keyBetween}
+use Rattle.xrtree.proofs.Extra.{key-between}
 use Rattle.pages.specs.Layout.{pageOf, markOf, fillOf, nextOf, childIn, pageUsed}
 use Rattle.pages.specs.declared.KeyWords.{KeyWords}
 use Rattle.image.specs.Read.{entryAt, entriesFrom}
@@ -19,7 +20,7 @@ use Rattle.split.specs.Moves.{Gathered, GatherReady, Flagged, EnterReady
 use Rattle.split.specs.Ready.{LeafReady}
 use Rattle.split.proofs.Assemble.{assemble}
 use Rattle.split.proofs.Seen.{q-range, p-range, p-not-q, i-fits, child-is, FreePage, free-page}
-use Rattle.split.proofs.Leafs.{LeafCut, starts-rise, leaf-cut, leaf-more, leaf-few, leaf-pairs, gather-ready, leaf-enter, leaf-made}
+use Rattle.split.proofs.Leafs.{Separates, LeafCut, starts-rise, leaf-cut, leaf-more, leaf-few, leaf-pairs, gather-ready, leaf-enter, leaf-made}
 
 -- what the three stores ask
 abbrev pub StoreAsks : List ℕ → ℕ → ℕ → ℕ → Type 0
@@ -54,14 +55,15 @@ module _ {w : List ℕ} {q i c : ℕ} (s : LeafReady w q i c) (page : List ℕ) 
     subst (λ (z : List ℕ). entryAt z (c - 1) .region .start < entryAt z c .region .start) (sym leaf-at) (starts-rise (pageOf w (s .child-at .child .place)) c (s .low) (leaf-more s) (leaf-pairs s)),
   )
 
+  pub key-lies : Separates leaf c (keyBetween (entryAt leaf (c - 1) .region .start) (entryAt leaf c .region .start))
+  key-lies = key-between _ _ (cut-asks .2)
+
   pub flag-asks : (fillOf leaf ≤ 9) × (c + 1 ≤ fillOf leaf)
   flag-asks = subst (λ (z : List ℕ). (fillOf z ≤ 9) × (c + 1 ≤ fillOf z)) (sym leaf-at) (leaf-few s, omega (arith, leaf-more s))
 
-  module _ (k : ℕ) (k-is : k ≡ keyBetween (entryAt leaf (c - 1) .region .start) (entryAt leaf c .region .start)) where
+  module _ (k : ℕ) (separates : Separates leaf c k) where
     cut-here : LeafCut (pageOf w (s .child-at .child .place)) c k
-    cut-here =
-        leaf-cut (pageOf w (s .child-at .child .place)) c (s .low) (leaf-more s) (leaf-pairs s) k
-        (k-is ∙ ap (λ (z : List ℕ). keyBetween (entryAt z (c - 1) .region .start) (entryAt z c .region .start)) leaf-at)
+    cut-here = leaf-cut (pageOf w (s .child-at .child .place)) c (s .low) (leaf-more s) (leaf-pairs s) k (subst (λ z. Separates z c k) leaf-at separates)
 
     pub gather-asks : GatherReady w leaf (c + 1) k
     gather-asks = subst (λ z. GatherReady w z (c + 1) k) (sym leaf-at) (gather-ready s k cut-here)
@@ -73,13 +75,14 @@ module _ {w : List ℕ} {q i c : ℕ} (s : LeafReady w q i c) (page : List ℕ) 
       pub enter-asks : EnterReady w₁ page i key 0
       enter-asks = subst (λ z. EnterReady w₁ z i key 0) (sym page-is) (leaf-enter s cut-here gathered-here)
 
-      pub leaf-split : {w₂ w₅ ws lws rws pws : List ℕ} {r : ℕ} → FirstFree (pageUsed w) 160 r → Flagged leaf (c + 1) k ws
+      pub leaf-split : {w₂ w₅ ws lws rws pws : List ℕ} {r : ℕ} → k ≡ keyBetween (entryAt leaf (c - 1) .region .start) (entryAt leaf c .region .start) → FirstFree (pageUsed w) 160 r → Flagged leaf (c + 1) k ws
           → ((h : ℕ) (g : EnterReady w₁ page i key h) → Entered w₁ w₂ page i key r h g pws)
           → IsLeaf lws (markOf ws) c r (take c (entriesOf ws)) (take c (sparesOf ws)) → IsLeaf rws 1 (fillOf ws - c) (nextOf ws) (drop c (entriesOf ws)) (drop c (sparesOf ws))
           → Stored w₂ w₅ p lws r rws q pws → Split w w₅ 0 q i c (s .child-at)
-      leaf-split {w₂} {w₅} {ws} {lws} {rws} {pws} {r} free f e l m t =
+      leaf-split {w₂} {w₅} {ws} {lws} {rws} {pws} {r} k-is free f e l m t =
           let o = free-page (s .child-at) r free (s .free-page) in
           assemble
           (leaf-made s cut-here gathered-here (subst (λ z. Flagged z (c + 1) k ws) leaf-at f)
-          (subst (λ (z : List ℕ). (h : ℕ) (g : EnterReady w₁ z i key h) → Entered w₁ w₂ z i key r h g pws) page-is e 0 (leaf-enter s cut-here gathered-here)) l m)
+          (subst (λ (z : List ℕ). (h : ℕ) (g : EnterReady w₁ z i key h) → Entered w₁ w₂ z i key r h g pws) page-is e 0 (leaf-enter s cut-here gathered-here)) l m
+          (k-is ∙ ap (λ (z : List ℕ). keyBetween (entryAt z (c - 1) .region .start) (entryAt z c .region .start)) leaf-at))
           (subst (λ p. Stored w₂ w₅ p lws r rws q pws) place-is t) (o .low) (o .high) (o .free)

@@ -7,7 +7,7 @@ use lib.Dec.{eqb}
 use lib.ListN.{length, getD, take, drop, take-append-drop, length-drop}
 use lib.Seq.{take-suc, drop-cons, length-take-le}
 use native.Mathlib.Omega.{arith}
-use Rattle.words.specs.Lists.{All, Pairs, count, filter}
+use Rattle.words.specs.Lists.{All, Pairs, count, filter, lastOr}
 use Rattle.words.proofs.Tests.{by-test}
 use Rattle.words.proofs.Counted.{count-append}
 use Rattle.words.proofs.Listed.{all-mono, all-two, all-take, all-drop, pairs-mono, pairs-right, map-append}
@@ -21,16 +21,16 @@ use Rattle.xrtree.proofs.Whole.{Part, fill, hiPost}
 use Rattle.xrtree.proofs.Split.{fresh, regions-marked}
 use Rattle.xrtree.proofs.Merge.{all-unmap}
 use Rattle.xrtree.specs.Rules.{keyBetween}
-use Rattle.xrtree.proofs.Extra.{key-between, cut, fresh-first, fresh-append, marked-later}
+use Rattle.xrtree.proofs.Extra.{cut, fresh-first, fresh-append, marked-later}
 use Rattle.pages.specs.Layout.{pageOf, markOf, fillOf, nextOf}
 use Rattle.pages.specs.declared.KeyWords.{KeyWords}
 use Rattle.image.specs.Read.{entryAt, entriesFrom}
 use Rattle.holding.specs.Held.{KeyHeld, LeafHeld}
 use Rattle.standing.specs.Stands.{top}
 use Rattle.standing.proofs.Counting.{counted-all}
-use Rattle.steps.specs.Steps.{rekeyed, nextPlaces}
+use Rattle.steps.specs.Steps.{rekeyed, nextPlaces, startsOf}
 use Rattle.pagework.specs.Pages.{entriesOf, sparesOf, IsLeaf}
-use Rattle.pagework.proofs.Read.{entries-up, entry-in}
+use Rattle.pagework.proofs.Read.{entries-up, entry-in, last-append}
 use Rattle.pagework.proofs.Items.{up-take}
 use Rattle.records.proofs.Marks.{none-in, touched-then}
 use Rattle.split.specs.Sides.{topped, nextCut}
@@ -41,7 +41,7 @@ use Rattle.split.proofs.Stays.{linked-two}
 use Rattle.split.proofs.Assemble.{Made}
 use Rattle.split.proofs.Gathering.{entries-all}
 use Rattle.split.proofs.Flagging.{map-long, entries-long}
-use Rattle.split.proofs.Seen.{child-stands, q-mark, p-mark, used-all, fresh-apart, enter-ready, long-more, topped-counts}
+use Rattle.split.proofs.Seen.{cut-same, child-stands, q-mark, p-mark, used-all, fresh-apart, enter-ready, long-more, topped-counts}
 
 -- LISTS
 take-map : {A B : Type 0} (f : A → B) (n : ℕ) (xs : List A) → take n (map f xs) ≡ map f (take n xs)
@@ -57,6 +57,11 @@ drop-map f (suc n) (x ∷ xs) = drop-map f n xs
 entries-take : (ws : List ℕ) (m n : ℕ) → m ≤ n → entriesFrom ws 0 m ≡ take m (entriesFrom ws 0 n)
 entries-take ws m n h = entries-up ws 0 m ∙ sym (up-take (entryAt ws) 0 m n h) ∙ ap (take m) (sym (entries-up ws 0 n))
 
+starts-marked : (k : ℕ) (es : List Entry) → startsOf (map (marked k) es) ≡ startsOf es
+unfolding marked
+starts-marked k [] = refl
+starts-marked k (e ∷ es) = ap (e .region .start ∷_) (starts-marked k es)
+
 -- at most those with flag 0
 fresh-unlisted : (k : ℕ) (es : List Entry) → length (fresh k es) ≤ unlisted es
 unfolding fresh filter
@@ -66,7 +71,10 @@ fresh-unlisted k (e ∷ es) =
     (λ h. rw h (by-test (stabs k (e .region)) (λ t. rw t (omega (arith, fresh-unlisted k es))) (λ t. rw t (omega (arith, fresh-unlisted k es)))))
     (λ h. rw h (fresh-unlisted k es))
 
--- THE CUT of a leaf's words lf
+-- THE CUT of a leaf's words lf at c, by any key k that separates the two parts
+abbrev pub Separates : List ℕ → ℕ → ℕ → Type 0
+Separates lf c k = (entryAt lf (c - 1) .region .start < k) × (k ≤ entryAt lf c .region .start)
+
 pub record LeafCut (lf : List ℕ) (c k : ℕ) : Type 0 where
   pub above-last : entryAt lf (c - 1) .region .start < k
   pub at-most-first : k ≤ entryAt lf c .region .start
@@ -103,9 +111,16 @@ module _ (lf : List ℕ) (c : ℕ) (one : 1 ≤ c) (more : c < fillOf lf) (pairs
       pairs-right (λ (x y : Region). x .start < y .start) (map regionOf (take (c - 1) (entriesOf lf))) (map regionOf (entryAt lf (c - 1) ∷ entryAt lf c ∷ drop (suc c) (entriesOf lf)))
       (subst (Pairs (λ (x y : Region). x .start < y .start)) (map-append regionOf (take (c - 1) (entriesOf lf)) (entryAt lf (c - 1) ∷ entryAt lf c ∷ drop (suc c) (entriesOf lf))) ordered) .0 .0
 
-  pub leaf-cut : (k : ℕ) → k ≡ keyBetween (entryAt lf (c - 1) .region .start) (entryAt lf c .region .start) → LeafCut lf c k
-  leaf-cut k e =
-      let b = subst (λ k. (entryAt lf (c - 1) .region .start < k) × (k ≤ entryAt lf c .region .start)) (sym e) (key-between (entryAt lf (c - 1) .region .start) (entryAt lf c .region .start) starts-rise) in
+  -- the two starts that rule 2 makes the key of, by the parts
+  pub last-start : lastOr 0 (startsOf (take c (entriesOf lf))) ≡ entryAt lf (c - 1) .region .start
+  unfolding lastOr
+  last-start = rw (take-c, map-append) (last-append 0 _ (startsOf (take (c - 1) (entriesOf lf))) [])
+
+  pub first-start : getD (startsOf (drop c (entriesOf lf))) 0 0 ≡ entryAt lf c .region .start
+  first-start = rw drop-c
+
+  pub leaf-cut : (k : ℕ) → Separates lf c k → LeafCut lf c k
+  leaf-cut k b =
       let u = cut k (take (c - 1) (entriesOf lf)) (entryAt lf (c - 1)) (entryAt lf c) (drop (suc c) (entriesOf lf)) ordered (b .0) (b .1) in
       let n : c + 1 ≡ suc c = omega arith in
       let f : take (suc c) (entriesOf lf) ≡ take c (entriesOf lf) ++ entryAt lf c ∷ [] = take-suc (entriesOf lf) c (entryAt lf c) (omega (arith, many)) ∙ ap (λ z. take c (entriesOf lf) ++ z ∷ []) (at c more) in
@@ -218,12 +233,14 @@ module _ {w : List ℕ} {q i c : ℕ} (s : LeafReady w q i c) where
           (subst (λ (t : Leaf). Here (a .rs) (loAfter (a .lo) (a .pre)) (hiPost (a .hi) (a .post)) (map regionOf (t .entries))) whole-child (child-stands a .near))
           (subst (λ (t : Leaf). Part (a .rs) 1 (a .lo) (a .hi) (fill q (a .pre) (a .post) t)) whole-child (a .stands .part))
 
-      pub leaf-made : Made w w₂ 0 q i c (s .child-at) r lws rws pws
+      pub leaf-made : k ≡ keyBetween (entryAt (pageOf w (s .child-at .child .place)) (c - 1) .region .start) (entryAt (pageOf w (s .child-at .child .place)) c .region .start)
+          → Made w w₂ 0 q i c (s .child-at) r lws rws pws
       unfolding listed leaf-enter enter-ready
-      leaf-made =
+      leaf-made k-is =
           let a = s .child-at in
           let p = a .child .place in
           let n = a .child .next in
+          let lf = pageOf w p in
           let xs = take c (a .child .entries) in
           let ys = drop c (a .child .entries) in
           let t = touched-then (g .touched) (e .touched) in
@@ -232,6 +249,8 @@ module _ {w : List ℕ} {q i c : ℕ} (s : LeafReady w q i c) where
             right = leafAt r n (map (marked k) ys);
             key = topped k (a .post) (g .places) cutFresh;
             key′ = nextCut k (a .post);
+            key-made = k-is ∙ simp (starts-marked, ← leaf-held .entries-are) (sym (ap₂ keyBetween (last-start lf c (s .low) leaf-more leaf-pairs) (first-start lf c (s .low) leaf-more leaf-pairs)));
+            next-same = cut-same k (a .post);
             fresh = g .places;
             touched = g .places ++ nextPlaces (a .post);
             long = t .long;

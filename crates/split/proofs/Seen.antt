@@ -23,7 +23,7 @@ use Rattle.holding.proofs.Frames.{keyRecords, keys-frame}
 use Rattle.standing.specs.Stands.{Stands}
 use Rattle.standing.proofs.Counting.{all-counted, place-once, counted-used}
 use Rattle.standing.proofs.Child.{aroundHole, stands-hole}
-use Rattle.steps.specs.Steps.{rekeyed, ChildAt, pageHere, nextPlaces}
+use Rattle.steps.specs.Steps.{rekeyed, SameKey, ChildAt, pageHere, nextPlaces}
 use Rattle.steps.proofs.Listed.{page-listed, pages-keyless}
 use Rattle.steps.proofs.Stays.{pages-root, pagesBelow, ownRecords, records-parts}
 use Rattle.store.specs.Store.{FirstFree}
@@ -57,6 +57,10 @@ child-records x f [] (atKey k cs last) t = omega (arith, count-append x (f t) (w
 child-records x f [] atEnd t = omega arith
 child-records x f (c ∷ pre) (atKey k cs last) t = omega (arith, count-append x (f (c .0)) (weave f (λ (k : Key). []) (pre ++ (t, k) ∷ cs) last), child-records x f pre (atKey k cs last) t)
 child-records x f (c ∷ pre) atEnd t = omega (arith, count-append x (f (c .0)) (weave f (λ (k : Key). []) pre t), child-records x f pre atEnd t)
+
+pub cut-same : {A : Type 0} (k : ℕ) (post : Post A) → SameKey post (nextCut k post)
+cut-same k (atKey j cs last) = refl
+cut-same k atEnd = tt
 
 pub topped-counts : {A : Type 0} (x k : ℕ) (post : Post A) (ps : List ℕ) → count x (toppedPlaces k post ps) + count x (nextPlaces (rekeyed post (nextCut k post))) ≡ count x ps + count x (nextPlaces post)
 topped-counts x k (atKey j cs last) ps =

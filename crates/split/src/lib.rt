@@ -68,7 +68,7 @@ fn is_fresh(ws: [u32; 57], j: usize, k: u32) -> bool
     regions::stabs(k, entry_of(ws, j))
 }
 
-// The key between two leaves: one less than the right one's first start where that still exceeds the left one's last start, so that fewer regions are stabbed.
+// The key between two leaves, by the last start on the left and the first on the right: right before the latter where there is a place between the two, so that fewer regions are stabbed.
 fn key_between(last: u32, first: u32) -> u32
     requires { ⌜ last < first ⌝ }
     ensures { λ r. ⌜ r ≡ keyBetween last first ⌝ }
@@ -184,11 +184,12 @@ fn store_split(
     store::store_page(img, q, above);
 }
 
-// Child i of the page at place q, a leaf, keeps its first c entries; the rest goes to a new leaf on its right.
-fn split_leaf(img: &mut [u32], q: u32, i: usize, c: usize)
-    requires { ⌜ LeafReady (now img) q i c ⌝ }
-    ensures { λ _. ⌜ ((s : LeafReady (now (img .entry)) q i c) → Split (now (img .entry)) (now (img .exit)) 0 q i c (s .child-at)) ⌝ }
+// Child i of page number `at` of the path, a leaf, keeps its first c entries; the rest goes to a new leaf on its right.
+pub fn leaf(img: &mut [u32], path: [u32; 4], at: usize, i: usize, c: usize)
+    requires { ⌜ (at < 4) × LeafReady (now img) (getD path at 0) i c ⌝ }
+    ensures { λ _. ⌜ ((s : LeafReady (now (img .entry)) (getD path at 0) i c) → Split (now (img .entry)) (now (img .exit)) 0 (getD path at 0) i c (s .child-at)) ⌝ }
 {
+    let q = path[at];
     let page = store::load_page(img, q);
     let p = child_of(page, i);
     let leaf = store::load_page(img, p);
@@ -202,11 +203,12 @@ fn split_leaf(img: &mut [u32], q: u32, i: usize, c: usize)
     store_split(img, p, left, r, right, q, above);
 }
 
-// Child i of the page at place q, an inner page, keeps its first c keys and c + 1 children; key c goes up, the rest goes to a new page on its right.
-fn split_inner(img: &mut [u32], q: u32, i: usize, c: usize)
-    requires { ⌜ ((h : ℕ) × InnerReady (now img) h q i c) ⌝ }
-    ensures { λ _. ⌜ ((h : ℕ) (s : InnerReady (now (img .entry)) h q i c) → Split (now (img .entry)) (now (img .exit)) (suc h) q i c (s .child-at)) ⌝ }
+// Likewise an inner page: it keeps its first c keys and c + 1 children; key c goes up, the rest goes to a new page on its right.
+pub fn inner(img: &mut [u32], path: [u32; 4], at: usize, i: usize, c: usize)
+    requires { ⌜ (at < 4) × ((h : ℕ) × InnerReady (now img) h (getD path at 0) i c) ⌝ }
+    ensures { λ _. ⌜ ((h : ℕ) (s : InnerReady (now (img .entry)) h (getD path at 0) i c) → Split (now (img .entry)) (now (img .exit)) (suc h) (getD path at 0) i c (s .child-at)) ⌝ }
 {
+    let q = path[at];
     let page = store::load_page(img, q);
     let p = child_of(page, i);
     let child = store::load_page(img, p);
@@ -218,20 +220,4 @@ fn split_inner(img: &mut [u32], q: u32, i: usize, c: usize)
     let left = pagework::inner_left(ws, c);
     let right = pagework::inner_right(ws, c);
     store_split(img, p, left, r, right, q, above);
-}
-
-// The split of a leaf along a path: the page above the leaf is page number `at` of the path.
-pub fn leaf(img: &mut [u32], path: [u32; 4], at: usize, i: usize, c: usize)
-    requires { ⌜ (at < 4) × LeafReady (now img) (getD path at 0) i c ⌝ }
-    ensures { λ _. ⌜ ((s : LeafReady (now (img .entry)) (getD path at 0) i c) → Split (now (img .entry)) (now (img .exit)) 0 (getD path at 0) i c (s .child-at)) ⌝ }
-{
-    split_leaf(img, path[at], i, c);
-}
-
-// The split of an inner page, likewise.
-pub fn inner(img: &mut [u32], path: [u32; 4], at: usize, i: usize, c: usize)
-    requires { ⌜ (at < 4) × ((h : ℕ) × InnerReady (now img) h (getD path at 0) i c) ⌝ }
-    ensures { λ _. ⌜ ((h : ℕ) (s : InnerReady (now (img .entry)) h (getD path at 0) i c) → Split (now (img .entry)) (now (img .exit)) (suc h) (getD path at 0) i c (s .child-at)) ⌝ }
-{
-    split_inner(img, path[at], i, c);
 }

@@ -3,13 +3,13 @@
 use Prim.Native.Nat.{ℕ, zero, suc, _+_, _≤_, _<_}
 use mathlib.Core.Path.{_≡_}
 use mathlib.Core.Bool.{Bool, false}
-use mathlib.Core.List.{List, [], _∷_, _++_}
+use mathlib.Core.List.{List, [], _∷_, _++_, map}
 use lib.Dec.{T}
-use lib.ListN.{length}
-use Rattle.words.specs.Lists.{All}
+use lib.ListN.{length, getD}
+use Rattle.words.specs.Lists.{All, lastOr}
 use Rattle.regions.specs.declared.Region.{Region}
-use Rattle.xrtree.specs.Tree.{Key, Leaf, Inner, Tree, regions, pagePlaces, recordPlaces, allKids}
-use Rattle.xrtree.specs.Rules.{filledBelow}
+use Rattle.xrtree.specs.Tree.{Entry, Key, Leaf, Inner, Tree, regions, pagePlaces, recordPlaces, keysIn, allKids}
+use Rattle.xrtree.specs.Rules.{filledBelow, keyBetween}
 use Rattle.xrtree.proofs.Whole.{Post, fill, fillKids}
 use Rattle.xrtree.proofs.Whole.Post.{atKey, atEnd}
 use Rattle.pages.specs.Layout.{pageUsed, recordUsed}
@@ -29,6 +29,11 @@ abbrev pub rekeyed : {A : Type 0} → Post A → Key → Post A
 rekeyed (atKey k cs last) k′ = atKey k′ cs last
 rekeyed atEnd k′ = atEnd
 
+-- it is the same key: only its list may have changed
+abbrev pub SameKey : {A : Type 0} → Post A → Key → Type 0
+SameKey (atKey k cs last) k′ = k′ .key ≡ k .key
+SameKey atEnd k′ = Unit {0}
+
 -- the places of the records of the key that follows a child
 abbrev pub nextPlaces : {A : Type 0} → Post A → List ℕ
 nextPlaces (atKey k cs last) = k .places
@@ -38,6 +43,15 @@ nextPlaces atEnd = []
 abbrev pub moved : ℕ → ℕ
 moved zero = 0
 moved (suc h) = 1
+
+-- the starts of a leaf's entries
+abbrev pub startsOf : List Entry → List ℕ
+startsOf es = map (λ (e : Entry). e .region .start) es
+
+-- RULE 2, the key k that a split makes. Between two leaves: by the left one's last start and the right one's first. An inner page passes a key of its own on, and its parts keep the others. (The size of the left part says which)
+abbrev pub KeyMade : (h : ℕ) (child left right : Tree h) → ℕ → Type 0
+KeyMade zero child left right k = k ≡ keyBetween (lastOr 0 (startsOf (left .entries))) (getD (startsOf (right .entries)) 0 0)
+KeyMade (suc h) child left right k = keysIn (left .kids) ++ k ∷ keysIn (right .kids) ≡ keysIn (child .kids)
 
 -- A CHILD IN ITS PAGE: the page at place q stands, with child number i
 pub record ChildAt (w : List ℕ) (h q i : ℕ) : Type 0 where
@@ -60,6 +74,8 @@ pub record Split (w w′ : List ℕ) (h q i c : ℕ) (s : ChildAt w h q i) : Typ
   pub right : Tree h
   pub key : Key
   pub key′ : Key
+  pub key-made : KeyMade h (s .child) left right (key .key)
+  pub next-same : SameKey (s .post) key′
   pub stands : Stands w′ (s .rs) (suc h) (s .lo) (s .hi) (fill q (s .pre ++ (left, key) ∷ []) (rekeyed (s .post) key′) right) (s .o)
   pub same : regions (suc h) (fill q (s .pre ++ (left, key) ∷ []) (rekeyed (s .post) key′) right) ≡ regions (suc h) (pageHere s)
   pub spares : Spares w w′ (s .o)
@@ -86,6 +102,7 @@ pub record PairAt (w : List ℕ) (h q j : ℕ) : Type 0 where
 pub record Merged (w w′ : List ℕ) (h q j : ℕ) (s : PairAt w h q j) : Type 0 where
   pub joined : Tree h
   pub key′ : Key
+  pub next-same : SameKey (s .post) key′
   pub stands : Stands w′ (s .rs) (suc h) (s .lo) (s .hi) (fill q (s .pre) (rekeyed (s .post) key′) joined) (s .o)
   pub same : regions (suc h) (fill q (s .pre) (rekeyed (s .post) key′) joined) ≡ regions (suc h) (fill q (s .pre ++ (s .left, s .key) ∷ []) (s .post) (s .right))
   pub spares : Spares w w′ (s .o)

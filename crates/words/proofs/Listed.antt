@@ -1,13 +1,14 @@
 -- Lists: what every element or pair has, filters, beginnings.
 -- Assumes nothing.
 use Prim.Native.Nat.{ℕ, zero, suc, _+_, _≤_, _<_}
-use mathlib.Core.Path.{_≡_, refl, sym, ap, ap₂, _∙_}
+use mathlib.Core.Path.{_≡_, refl, sym, ap, ap₂, _∙_, subst}
+use mathlib.Core.Logic.{_⊎_, inl, inr, ⊎-elim}
 use mathlib.Core.Bool.{Bool, true, false, _&&_, _||_, not, cond, true≢false}
 use mathlib.Core.List.{List, [], _∷_, _++_, map, flatMap, append-assoc}
 use lib.Dec.{T}
 use lib.ListN.{length, take, drop}
 use native.Mathlib.Omega.{arith}
-use Rattle.words.specs.Lists.{filter, takeWhile, dropWhile, some, all, allPairs, All, Pairs, lastOr}
+use Rattle.words.specs.Lists.{filter, takeWhile, dropWhile, some, all, allPairs, All, Pairs, In, lastOr}
 use Rattle.words.proofs.Tests.{T-of, of-T, off-T, no-T, both, by-test, and-comm, and-assoc, and-left, and-right, and-both}
 
 and-in : (a b : Bool) → (a ≡ true → b ≡ true) → a ≡ (b && a)
@@ -158,6 +159,34 @@ module _ {A : Type 0} where
   unfolding filter
   all-let p [] = tt
   all-let p (x ∷ xs) = by-test (p x) (λ h. rw h (h, all-let p xs)) (λ h. rw h (all-let p xs))
+
+  -- AN ELEMENT of a list has what all have; of a filter it is one that passes
+  pub in-all : (P : A → Type 0) (x : A) (xs : List A) → In x xs → All P xs → P x
+  in-all P x [] h k = absurd h
+  in-all P x (y ∷ ys) (inl e) k = subst P (sym e) (k .0)
+  in-all P x (y ∷ ys) (inr h) k = in-all P x ys h (k .1)
+
+  pub in-kept : (p : A → Bool) (x : A) (xs : List A) → In x (filter p xs) → In x xs
+  unfolding filter
+  in-kept p x [] h = h
+  in-kept p x (y ∷ ys) h = by-test (p y) (λ e. ⊎-elim (λ q. inl q) (λ q. inr (in-kept p x ys q)) (rw e at h)) (λ e. inr (in-kept p x ys (rw e at h)))
+
+  pub in-let : (p : A → Bool) (x : A) (xs : List A) → In x (filter p xs) → p x ≡ true
+  in-let p x xs h = in-all (λ y. p y ≡ true) x (filter p xs) h (all-let p xs)
+
+  pub in-filter : (p : A → Bool) (x : A) (xs : List A) → In x xs → p x ≡ true → In x (filter p xs)
+  unfolding filter
+  in-filter p x (y ∷ ys) (inl q) e = rw (ap p (sym q) ∙ e) (inl q)
+  in-filter p x (y ∷ ys) (inr h) e = by-test (p y) (λ t. rw t (inr (in-filter p x ys h e))) (λ t. rw t (in-filter p x ys h e))
+
+  pub in-append : (x : A) (xs ys : List A) → In x (xs ++ ys) → In x xs ⊎ In x ys
+  in-append x [] ys h = inr h
+  in-append x (y ∷ xs) ys (inl e) = inl (inl e)
+  in-append x (y ∷ xs) ys (inr h) = ⊎-elim (λ k. inl (inr k)) (λ k. inr k) (in-append x xs ys h)
+
+  pub in-right : (x : A) (xs ys : List A) → In x ys → In x (xs ++ ys)
+  in-right x [] ys h = h
+  in-right x (y ∷ xs) ys h = inr (in-right x xs ys h)
 
   pub filter-twice : (p : A → Bool) (xs : List A) → filter p (filter p xs) ≡ filter p xs
   filter-twice p xs = filter-all p (filter p xs) (all-let p xs)

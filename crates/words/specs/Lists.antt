@@ -1,6 +1,8 @@
 -- Lists and tests, over any element: the few words in which all other definitions are written.
 -- Assumes nothing.
 use Prim.Native.Nat.{ℕ, zero, suc, _+_}
+use mathlib.Core.Path.{_≡_}
+use mathlib.Core.Logic.{_⊎_}
 use mathlib.Core.Bool.{Bool, true, false, _&&_, cond}
 use mathlib.Core.List.{List, [], _∷_, _++_}
 use lib.Dec.{eqb}
@@ -42,6 +44,11 @@ module _ {A : Type 0} where
   abbrev pub Pairs : (A → A → Type 0) → List A → Type 0
   Pairs R [] = Unit {0}
   Pairs R (x ∷ xs) = All (R x) xs × Pairs R xs
+
+  -- an element stands in a list
+  abbrev pub In : A → List A → Type 0
+  In x [] = ⊥
+  In x (y ∷ ys) = (x ≡ y) ⊎ In x ys
 
   -- the last element, or the one given where there is none
   unfoldable pub lastOr : A → List A → A

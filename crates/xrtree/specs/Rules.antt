@@ -49,7 +49,7 @@ separates (key k) (key l) = true
 unfoldable pub rule2 : (h : ℕ) → Tree h → Bool
 rule2 h t = allPairs separates (items h t)
 
--- any such key is valid. The one that two neighbouring leaves are given is the place right before the second leaf's first start, where the first leaf has no start there or later; else that first start
+-- (any such key will do. A split takes the one right before the second leaf's first start, as long as the first leaf ends before it: fewer regions are stabbed then. Otherwise it takes that start)
 unfoldable pub keyBetween : ℕ → ℕ → ℕ
 keyBetween last first = cond (ltb last (first - 1)) (first - 1) first
 
@@ -98,7 +98,7 @@ unfoldable pub rule4 : (h : ℕ) → Tree h → Bool
 rule4 zero t = true
 rule4 (suc h) t = ownLists (stabList (t .kids)) [] (t .kids) && allKids (rule4 h) (t .kids) (t .last)
 
--- RULE 5 (Definition 3): a key's stored pair is the first region of its list, by start and end; two zeros where the list is empty
+-- RULE 5 (Definition 3): a key's stored pair repeats the two positions of the region at the head of its list; two zeros say that there is none
 unfoldable pub pairRight : Key → List Region → Bool
 pairRight k [] = eqb (k .pairStart) 0 && eqb (k .pairEnd) 0
 pairRight k (r ∷ rs) = eqb (k .pairStart) (r .start) && eqb (k .pairEnd) (r .end)
@@ -112,7 +112,7 @@ unfoldable pub rule5 : (h : ℕ) → Tree h → Bool
 rule5 zero t = true
 rule5 (suc h) t = pairsRight (t .kids) && allKids (rule5 h) (t .kids) (t .last)
 
--- RULE 6: regions well formed and nested rightly, no account above its share, shares of at most 500 in all
+-- RULE 6: of the set: every region well formed, every two nested rightly, each account within its share, and the shares within 500 together
 unfoldable pub sharesKept : ℕ → Set → Bool
 sharesKept zero S = true
 sharesKept (suc a) S = leb (heldBy a S) (shareOf a S) && sharesKept a S
@@ -120,7 +120,7 @@ sharesKept (suc a) S = leb (heldBy a S) (shareOf a S) && sharesKept a S
 unfoldable pub rule6 : Set → Bool
 rule6 S = all wellFormed (S .regions) && (allPairs nested (S .regions) && (sharesKept 16 S && leb (sum (S .shares)) 500))
 
--- RULE 7: every place 1 to n is listed once or free, never both, and no other place is listed
+-- RULE 7: of the places 1 to n, those in use are listed once and the others not at all; no other place is listed
 unfoldable pub onceOrFree : (ℕ → Bool) → ℕ → List ℕ → Bool
 onceOrFree used zero ps = true
 onceOrFree used (suc n) ps = eqb (count (suc n) ps) (cond (used (suc n)) 1 0) && onceOrFree used n ps

@@ -9,7 +9,7 @@ use Rattle.regions.specs.Positions.{holds}
 use Rattle.regions.specs.declared.Region.{Region}
 use Rattle.xrtree.specs.Tree.{Entry, Key, Leaf, Inner, Tree, regionOf}
 
--- a key's stored pair strictly holds p
+-- p lies between the two positions of a key's stored pair
 abbrev pub pairHolds : ℕ → Key → Bool
 pairHolds p k = ltb (k .pairStart) p && ltb p (k .pairEnd)
 
@@ -17,7 +17,7 @@ pairHolds p k = ltb (k .pairStart) p && ltb p (k .pairEnd)
 unfoldable pub run : ℕ → Key → List Region
 run p k = cond (pairHolds p k) (takeWhile (holds p) (k .list)) []
 
--- the stab records looked at: from the head of the list through the first whose region does not hold p, or to the end
+-- how many stab records that takes: one for each region taken, and one more for the region that stops the walk, if any does
 unfoldable pub looks : ℕ → List Region → ℕ
 looks p [] = 0
 looks p (r ∷ rs) = suc (cond (holds p r) (looks p rs) 0)
@@ -25,7 +25,7 @@ looks p (r ∷ rs) = suc (cond (holds p r) (looks p rs) 0)
 unfoldable pub cost : ℕ → Key → ℕ
 cost p k = cond (pairHolds p k) (looks p (k .list)) 0
 
--- AN INNER PAGE: its keys from the left, with the first that is greater than p as the last of them, and then the child left of that key; where none is greater, all keys and the last child
+-- AN INNER PAGE: key by key from the left. A key beyond p is the last that is asked, since p's path leads into the child on its left; where there is none, it leads into the last child
 module _ {A : Type 0} (child : A → List Region) (p : ℕ) where
   unfoldable pub findKids : List (A × Key) → A → List Region
   findKids [] last = child last

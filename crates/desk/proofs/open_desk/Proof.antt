@@ -162,7 +162,7 @@ module _ {M : Type 1} (𝓤 : URA M) (H : Heap 𝓤) (A : Atoms 𝓤) (W : Given
       more t l =
           let i = t .i in let l′ : t .i < length ys = subst (λ (m : ℕ). t .i < m) (sym eight) l in let l″ : t .i < length (D ys (t .i)) = subst (λ (m : ℕ). t .i < m) (sym (put-long (λ _. closed) (t .i) ys)) l′ in
           assigns ! (bin ! (load ! (from ! (stop !)) (look ! 10 refl)) (lit ! tt) tt) (from ! (stop !)) (init ! 16 refl (tt, tt)) $
-          rewrite ! 16 (λ (z : Bool). ‵ (fat fullShare tyBool l₆ 0 (vbool z))) (lt-ltb i 8 l) refl $ stays ! (load ! (from ! (stop !)) (look ! 16 refl)) $
+          rewrite ! 16 (λ (z : Bool). ‵ (fat fullShare tyBool l₆ 0 (vbool z))) (lt-ltb i _ (omega arith)) refl $ stays ! (load ! (from ! (stop !)) (look ! 16 refl)) $
           assigns ! (bin ! (load ! (from ! (stop !)) (look ! 10 refl)) (lit ! tt) (record { fits = bytes _ i room l′ })) (from ! (stop !)) (init ! 18 refl (tt, record { fits = bytes _ i room l′ })) $
           assigns ! (bin ! (load ! (from ! (fld ! refl (stop !))) (look-in ! 6 (sub ! 0 refl (whole !)))) (load ! (from ! (stop !)) (look ! 18 refl)) tt) (from ! (stop !)) (init ! 20 refl (tt, tt)) $
           rewrite ! 20 (λ (p : ℕ). ‵ (fat fullShare tyPtr l₈ 0 (vptr b p))) (sym (place-is 28 o i)) refl $
@@ -178,7 +178,7 @@ module _ {M : Type 1} (𝓤 : URA M) (H : Heap 𝓤) (A : Atoms 𝓤) (W : Given
       unfolding afterTurn
       ends t e =
           assigns ! (bin ! (load ! (from ! (stop !)) (look ! 10 refl)) (lit ! tt) tt) (from ! (stop !)) (init ! 16 refl (tt, tt)) $
-          rewrite ! 16 (λ (z : Bool). ‵ (fat fullShare tyBool l₆ 0 (vbool z))) (le-ltb (t .i) 8 (omega arith)) refl $ leaves-loop ! (load ! (from ! (stop !)) (look ! 16 refl)) $
+          rewrite ! 16 (λ (z : Bool). ‵ (fat fullShare tyBool l₆ 0 (vbool z))) (le-ltb (t .i) _ (omega arith)) refl $ leaves-loop ! (load ! (from ! (stop !)) (look ! 16 refl)) $
           exec ! (𝓣 .C) (𝓣 .Λ) E body.t-7 (atRet E Post) $
           assigns ! (of-opd ! (lit ! tt)) (from ! (stop !)) (init ! 4 refl (tt, record { fits = lit< tt })) $ closes-slice ! tt R ys (D ys (t .i)) (put-long (λ _. closed) (t .i) ys) b o $ returns ! (look ! 3 refl) $ rotate ! 3 $
           frees-all ! (code.function .locals) ks (has _ ∷ has s ∷ has (val closed) ∷ has _ ∷ c₄ ∷ c₅ ∷ has _ ∷ []) $ by ! (exits (D ys (t .i)) 0 (all-closed ys eight (t .i) e))
@@ -196,7 +196,7 @@ module _ {M : Type 1} (𝓤 : URA M) (H : Heap 𝓤) (A : Atoms 𝓤) (W : Given
         assigns ! (bin ! (load ! (from ! (stop !)) (look ! 11 refl)) (lit ! tt) tt) (from ! (stop !)) (init ! 13 refl (tt, tt)) $
         first ! $ branches ! (load ! (from ! (stop !)) (look ! 13 refl))
         (λ h. assigns ! (of-opd ! (lit ! tt)) (from ! (stop !)) (init ! 3 refl (tt, record { fits = lit< tt })) $ returns-within ! Post refl (look ! 3 refl) $ rotate ! 3 $
-        frees-all ! (code.function .locals) (l₀ ∷ l₁ ∷ l₂ ∷ l₃ ∷ l₄ ∷ l₅ ∷ l₆ ∷ l₇ ∷ l₈ ∷ []) (has _ ∷ has _ ∷ none ∷ none ∷ has _ ∷ has _ ∷ []) $ by ! (exits ys 11 (no-desk ys (is-false (eqb (length ys) 8) h))))
+        frees-all ! (code.function .locals) (l₀ ∷ l₁ ∷ l₂ ∷ l₃ ∷ l₄ ∷ l₅ ∷ l₆ ∷ l₇ ∷ l₈ ∷ []) (has _ ∷ has _ ∷ none ∷ none ∷ has _ ∷ has _ ∷ []) $ by ! (exits ys _ (no-desk ys (is-false (eqb (length ys) 8) h))))
         (λ h. let eight = not-ne (length ys) 8 h in skips ! $ exec ! (𝓣 .C) (𝓣 .Λ) (env (code.function .locals) (l₀ ∷ l₁ ∷ l₂ ∷ l₃ ∷ l₄ ∷ l₅ ∷ l₆ ∷ l₇ ∷ l₈ ∷ [])) body.t-4 (atRet (env (code.function .locals) (l₀ ∷ l₁ ∷ l₂ ∷ l₃ ∷ l₄ ∷ l₅ ∷ l₆ ∷ l₇ ∷ l₈ ∷ [])) Post) $
         use0 W (raw (Shut 𝓤 H A mem run .pre to-shut)) goes-shut $ calls-at ! (fmOf 𝓤 H (W .laws) 𝓣) (Shut 𝓤 H A mem run) known to-shut (no-more !) (λ v.
         use1 W (later (some (λ (r : Seat). (‵ ftrue ⊛ ‵ (R .own r (v ∷ []))) ⊛ raw (ensured 𝓤 H A shut.ended (shut.clauses 𝓤 H A mem run) tt tt tt r)))) (id⊢ 𝓤 _) $ await ! tt $ pick ! (λ r.

@@ -1,12 +1,19 @@
 -- `desk::part_words` meets its contract: by the number; where it is 0, the words are there.
 -- Assumes nothing.
-use mathlib.Core.Path.{_≡_}
-use Prim.Native.Nat.{_+_, _*_, _-_}
+use mathlib.Core.Path.{_≡_, ap}
+use mathlib.Core.List.{List}
+use Prim.Native.Nat.{ℕ, _+_, _*_, _-_}
 use native.Mathlib.Omega.{arith}
 use borrow.Author.Needs.{needs}
 use borrow.Author.Tests.{eq-eqb, ne-eqb}
+use denote.Ref.{RefT}
+use Rattle.desk.specs.Promises.{wordAt}
 use Rattle.desk.proofs.part_words.Statement.{statement}
 use Rattle.desk.proofs.part_words.Tie as tie
+
+-- a part that is borrowed from w on stands w elements of 4 bytes behind the slice's place: at its word w
+placed : (s : RefT (List ℕ)) (w : ℕ) → (s .ptr .0, w * 4 + s .ptr .1) ≡ wordAt s w
+placed s w = let o = s .ptr .1 in let h : w * 4 + o ≡ o + 4 * w = omega arith in ap (λ (k : ℕ). (s .ptr .0, k)) h
 
 mul-a : tie.Need-mul-a
 mul-a c = search needs
@@ -30,7 +37,10 @@ part-result-end : tie.Need-part-result-end
 part-result-end c = let p = c .before .pre (c .if1 .taken) in search needs
 
 returns : tie.Need-returns
-returns c = let a = c .before .before .args in let h : (128 * a .i + 4 * a .count) - 128 * a .i ≡ 4 * a .count = omega arith in simp (eq-eqb _ _ (c .before .if1 .taken), h)
+returns c =
+    let a = c .before .before .args in
+    let h : (128 * a .i + 4 * a .count) - 128 * a .i ≡ 4 * a .count = omega arith in
+    record { words-are = simp (eq-eqb _ _ (c .before .if1 .taken), h); place-is = λ _. placed (a .buffer) (128 * a .i) }
 
 sub-result-2 : tie.Need-sub-result-2
 sub-result-2 c = search needs
@@ -42,7 +52,7 @@ part-result-end-2 : tie.Need-part-result-end-2
 part-result-end-2 c = search needs
 
 returns-2 : tie.Need-returns-2
-returns-2 c = simp (ne-eqb _ _ (c .before .if1 .left))
+returns-2 c = record { words-are = simp (ne-eqb _ _ (c .before .if1 .left)); place-is = λ z. absurd (c .before .if1 .left z) }
 
 pub part-words-spec : {M : Type 1} → statement M
 part-words-spec =

@@ -232,7 +232,7 @@ module _ {M : Type 1} (𝓤 : URA M) (H : Heap 𝓤) (A : Atoms 𝓤) (W : Given
         unfolding afterTurn
         ends t e =
             assigns ! (bin ! (load ! (from ! (stop !)) (look ! 24 refl)) (lit ! tt) tt) (from ! (stop !)) (init ! 38 refl (tt, tt)) $
-            rewrite ! 38 (λ (z : Bool). ‵ (fat fullShare tyBool l₁₄ 0 (vbool z))) (le-ltb (t .i) 8 (omega arith)) refl $ leaves-loop ! (load ! (from ! (stop !)) (look ! 38 refl)) $
+            rewrite ! 38 (λ (z : Bool). ‵ (fat fullShare tyBool l₁₄ 0 (vbool z))) (le-ltb (t .i) _ (omega arith)) refl $ leaves-loop ! (load ! (from ! (stop !)) (look ! 38 refl)) $
             exec ! (𝓣 .C) (𝓣 .Λ) E body.t-10 (atRet E Post) $ leaves t (has _) c₉ c₁₀ c₁₁ c₁₂ c₁₃ (has _) (e ∙ all-made c h)
 
         more : (t : At) → t .i < 8 → Sq W (Inv t) (runs (𝓣 .C) (𝓣 .Λ) E body.turn-1 (anyQ (afterTurn 𝓤 H (Below 𝓤 H A Falls Inv t) Left)))
@@ -242,7 +242,7 @@ module _ {M : Type 1} (𝓤 : URA M) (H : Heap 𝓤) (A : Atoms 𝓤) (W : Given
             let l′ : t .i < length ys = subst (λ (m : ℕ). t .i < m) (sym (told .eight)) l in let l″ : t .i < length (D (t .i)) = subst (λ (m : ℕ). t .i < m) (sym (long (t .i))) l′ in
             let same : v₀ ≡ seatAt ys i = seat-now (x₀ .now) (x₁ .now) ys i in
             assigns ! (bin ! (load ! (from ! (stop !)) (look ! 24 refl)) (lit ! tt) tt) (from ! (stop !)) (init ! 38 refl (tt, tt)) $
-            rewrite ! 38 (λ (z : Bool). ‵ (fat fullShare tyBool l₁₄ 0 (vbool z))) (lt-ltb i 8 l) refl $ stays ! (load ! (from ! (stop !)) (look ! 38 refl)) $
+            rewrite ! 38 (λ (z : Bool). ‵ (fat fullShare tyBool l₁₄ 0 (vbool z))) (lt-ltb i _ (omega arith)) refl $ stays ! (load ! (from ! (stop !)) (look ! 38 refl)) $
             assigns ! (bin ! (load ! (from ! (stop !)) (look ! 24 refl)) (lit ! tt) (record { fits = bytes _ i room l′ })) (from ! (stop !)) (init ! 40 refl (tt, record { fits = bytes _ i room l′ })) $
             assigns ! (bin ! (load ! (from ! (fld ! refl (stop !))) (look-in ! 16 (sub ! 0 refl (whole !)))) (load ! (from ! (stop !)) (look ! 40 refl)) tt) (from ! (stop !)) (init ! 42 refl (tt, tt)) $
             rewrite ! 42 (λ (p : ℕ). ‵ (fat fullShare tyPtr l₁₆ 0 (vptr b p))) (sym (place-is 28 o i)) refl $

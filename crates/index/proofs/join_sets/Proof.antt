@@ -11,7 +11,7 @@ use Rattle.index.proofs.Answers.{outer-invalid, either-invalid, join-fo
 use Rattle.index.proofs.join_sets.Statement.{statement}
 use Rattle.index.proofs.join_sets.Tie as tie
 use Rattle.index.proofs.is_valid.Reads as is-valid-reads
-use Rattle.join.proofs.join_all.Reads as join-all-reads
+use Rattle.join.proofs.pairs_past.Reads as pairs-past-reads
 
 is-valid-requires : tie.Need-is-valid-requires
 is-valid-requires c κs = search needs
@@ -28,14 +28,17 @@ returns-2 c = join-refused (now (c .before .before .before .before .before .befo
 returns-3 : tie.Need-returns-3
 returns-3 c = join-refused (now (c .before .before .before .before .before .before .before .before .args .outer)) (now (c .before .before .before .before .before .before .before .before .args .inner)) (c .before .before .before .before .before .before .before .before .args .account) _ _ 3 (λ z. omega arith) (join-foreign (valid (now (c .before .before .before .before .before .before .before .before .args .outer))) (valid (now (c .before .before .before .before .before .before .before .before .args .inner))) (c .before .before .before .before .before .before .before .before .args .account) (sym (c .before .before .before .before .is-valid .ensures) ∙ not-false (c .before .before .before .before .is-valid .result) (c .before .before .before .if1 .left)) (sym (c .before .before .is-valid2 .ensures) ∙ not-false (c .before .before .is-valid2 .result) (c .before .if2 .left)) (c .if3 .taken))
 
-join-all-requires : tie.Need-join-all-requires
-join-all-requires c κs = (T-of (sym (c .before .before .before .before .before .is-valid .ensures) ∙ not-false (c .before .before .before .before .before .is-valid .result) (c .before .before .before .before .if1 .left)), (T-of (sym (c .before .before .before .is-valid2 .ensures) ∙ not-false (c .before .before .before .is-valid2 .result) (c .before .before .if2 .left)), c .before .if3 .left))
+pairs-past-requires : tie.Need-pairs-past-requires
+pairs-past-requires c κs =
+    let outer-valid = T-of (sym (c .before .before .before .before .before .is-valid .ensures) ∙ not-false (c .before .before .before .before .before .is-valid .result) (c .before .before .before .before .if1 .left)) in
+    let inner-valid = T-of (sym (c .before .before .before .is-valid2 .ensures) ∙ not-false (c .before .before .before .is-valid2 .result) (c .before .before .if2 .left)) in
+    search (outer-valid, inner-valid, c .before .if3 .left)
 
 same-length : tie.Need-same-length
 same-length c = search needs
 
 returns-4 : tie.Need-returns-4
-returns-4 c = join-found (now (c .before .before .before .before .before .before .before .before .before .before .before .before .args .outer)) (now (c .before .before .before .before .before .before .before .before .before .before .before .before .args .inner)) (c .before .before .before .before .before .before .before .before .before .before .before .before .args .account) _ _ _ _ (sym (c .before .before .before .before .before .before .before .before .is-valid .ensures) ∙ not-false (c .before .before .before .before .before .before .before .before .is-valid .result) (c .before .before .before .before .before .before .before .if1 .left)) (sym (c .before .before .before .before .before .before .is-valid2 .ensures) ∙ not-false (c .before .before .before .before .before .before .is-valid2 .result) (c .before .before .before .before .before .if2 .left)) (c .before .before .before .before .if3 .left) (c .before .before .join-all .ensures .total) (c .before .before .join-all .ensures .words)
+returns-4 c = join-found (now (c .before .before .before .before .before .before .before .before .before .before .before .before .args .outer)) (now (c .before .before .before .before .before .before .before .before .before .before .before .before .args .inner)) (c .before .before .before .before .before .before .before .before .before .before .before .before .args .account) _ _ _ _ (sym (c .before .before .before .before .before .before .before .before .is-valid .ensures) ∙ not-false (c .before .before .before .before .before .before .before .before .is-valid .result) (c .before .before .before .before .before .before .before .if1 .left)) (sym (c .before .before .before .before .before .before .is-valid2 .ensures) ∙ not-false (c .before .before .before .before .before .before .is-valid2 .result) (c .before .before .before .before .before .if2 .left)) (c .before .before .before .before .if3 .left) (c .before .before .pairs-past .ensures)
 
 pub join-sets-spec : {M : Type 1} → statement M
 join-sets-spec =
@@ -46,6 +49,6 @@ join-sets-spec =
     is-valid-requires-2
     returns-2
     returns-3
-    join-all-requires
+    pairs-past-requires
     same-length
     returns-4)

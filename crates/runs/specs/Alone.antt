@@ -1,0 +1,29 @@
+-- One set alone: an image is opened, then saved to and deleted from, call after call. Nothing else is lent. (In its history it stands as the outer set.)
+-- Assumes nothing.
+use Prim.Native.Nat.{ℕ}
+use mathlib.Core.Path.{_≡_}
+use mathlib.Core.Bool.{false}
+use mathlib.Core.List.{List, [], _∷_}
+use lib.ListN.{length}
+use Rattle.regions.specs.declared.Region.{Region}
+use Rattle.regions.specs.Numbers.{DONE}
+use Rattle.index.specs.Opening.{OpensSet}
+use Rattle.index.specs.Changes.{Saves, Deletes}
+use Rattle.history.specs.Calls.{Done}
+use Rattle.history.specs.Calls.Which.{outer}
+use Rattle.history.specs.Calls.Call.{save, delete}
+use Rattle.runs.specs.Calls.{tells}
+
+-- how it begins: any words, opened with sixteen shares, answered 0
+pub record OpenedAlone (shares w : List ℕ) : Type 0 where
+  pub lent : List ℕ
+  pub sixteen : length shares ≡ 16
+  pub opens : OpensSet lent shares DONE w
+
+-- call after call, each by its own record
+pub data Alone : List ℕ → List Done → List ℕ → Type 0 where
+  rests : {w : List ℕ} → Alone w [] w
+  saving : {w v u : List ℕ} {a number : ℕ} {r : Region} {ds : List Done} → Saves w a r number v → Alone v ds u
+      → Alone w (record { call = save outer a r; told = tells number 0 false [] [] 0 } ∷ ds) u
+  deleting : {w v u : List ℕ} {a p number : ℕ} {ds : List Done} → Deletes w a p number v → Alone v ds u
+      → Alone w (record { call = delete outer a p; told = tells number 0 false [] [] 0 } ∷ ds) u
