@@ -15,10 +15,7 @@ use Rattle.desk.specs.Promises.{wordAt, LendsPart}
 
 module _ (ds : List Seat) (b : RefT (List ℕ)) (i n : ℕ) (r : RefT (List ℕ)) (x : LendsPart ds b i n r) (done : partNo ds (now b) i n ≡ 0) where
   pub word-stands : (j : ℕ) → wordAt r j ≡ wordAt b (seatWord i + j)
-  word-stands j =
-      let o = ptr b .1 in
-      let h : (o + 4 * (128 * i)) + 4 * j ≡ o + 4 * (128 * i + j) = omega arith in
-      ap (λ (q : ℕ × ℕ). (q .0, q .1 + 4 * j)) (x .place-is done) ∙ ap (λ (k : ℕ). (ptr b .0, k)) h
+  word-stands j = rw (x .place-is done) (ap (λ (k : ℕ). (ptr b .0, k)) (omega arith))
 
   pub word-is : (j d : ℕ) → j < 4 * n → getD (now r) j d ≡ getD (now b) (seatWord i + j) d
   unfolding part

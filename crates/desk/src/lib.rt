@@ -2,9 +2,9 @@
 // What is decided of a seat is decided in functions that take it by value; the calls on the lent slice read, call, store and return.
 ghost use mathlib.Core.Path.{_≡_};
 ghost use mathlib.Core.Bool.{_&&_};
-ghost use Prim.Native.Nat.{_+_, _*_, _<_, _≤_};
+ghost use Prim.Native.Nat.{_<_, _≤_};
 ghost use lib.ListN.{length};
-ghost use Rattle.regions.specs.Desk.{openAt, markFits, seatFits, deskFits, closed, limitAsked, seatWord};
+ghost use Rattle.regions.specs.Desk.{openAt, markFits, seatFits, deskFits, closed, limitAsked};
 ghost use Rattle.image.specs.Read.{setOf};
 ghost use Rattle.image.specs.Valid.{valid};
 ghost use Rattle.desk.specs.Promises.{OpensDesk, OpensSeat, ClosesSeat, Rounds, PartNumber, LendsPart};
@@ -85,7 +85,7 @@ pub fn open_desk(desk: &mut [Seat]) -> u32
     ensures { λ r. ⌜ OpensDesk (now (desk .entry)) r (now (desk .exit)) ⌝ }
 {
     if desk.len() != 8 {
-        return 11;
+        return 11; // the one test: what the seats hold is not asked
     }
     let s = closed_seat();
     let mut at = 0;
@@ -275,12 +275,11 @@ pub struct Turn {
     pub counts: [u32; 8],
 }
 
-// Where seat i's part of the buffer ends in a turn: behind as many pairs as its limit.
-fn part_end(o: Open, i: usize) -> usize
-    requires { ⌜ i < 8 ⌝ }
-    ensures { λ r. ⌜ r ≡ seatWord i + 4 * o .limit ⌝ }
+// How many pairs an open seat is handed in a turn, at most.
+fn pairs_a_turn(o: Open) -> usize
+    ensures { λ r. ⌜ r ≡ o .limit ⌝ }
 {
-    128 * i + 4 * (o.limit as usize)
+    o.limit as usize
 }
 
 // Hands an open seat its next pairs: its part of the buffer, as long as its limit, is lent on to the join's writer, which tells how many it wrote.
@@ -291,7 +290,7 @@ fn hand(outer: &[u32], inner: &[u32], o: Open, buffer: &mut [u32], i: usize) -> 
     let kind = o.kind;
     let mark = o.mark;
     let a = 128 * i;
-    let e = part_end(o, i);
+    let e = a + 4 * pairs_a_turn(o);
     join::pairs_past(
         outer,
         inner,

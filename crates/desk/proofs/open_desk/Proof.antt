@@ -84,9 +84,9 @@ module _ (ys : List Seat) where
     fits : r < 2 ^ 32
     kept : OpensDesk ys r l
 
-  no-desk : eqb (length ys) 8 ≡ false → Ends ys 11
+  no-desk : eqb (length ys) 8 ≡ false → (r : ℕ) → r ≡ 11 → Ends ys r
   unfolding openDeskNo firstNo
-  no-desk e = record { long = refl; fits = lit< tt; kept = record { number-is = rw e refl; desk-is = refl } }
+  no-desk e r n = subst (Ends ys) (sym n) (record { long = refl; fits = lit< tt; kept = record { number-is = rw e refl; desk-is = refl } })
 
   all-closed : length ys ≡ 8 → (i : ℕ) → i ≡ 8 → Ends (D i) 0
   unfolding openDeskNo firstNo
@@ -196,7 +196,7 @@ module _ {M : Type 1} (𝓤 : URA M) (H : Heap 𝓤) (A : Atoms 𝓤) (W : Given
         assigns ! (bin ! (load ! (from ! (stop !)) (look ! 11 refl)) (lit ! tt) tt) (from ! (stop !)) (init ! 13 refl (tt, tt)) $
         first ! $ branches ! (load ! (from ! (stop !)) (look ! 13 refl))
         (λ h. assigns ! (of-opd ! (lit ! tt)) (from ! (stop !)) (init ! 3 refl (tt, record { fits = lit< tt })) $ returns-within ! Post refl (look ! 3 refl) $ rotate ! 3 $
-        frees-all ! (code.function .locals) (l₀ ∷ l₁ ∷ l₂ ∷ l₃ ∷ l₄ ∷ l₅ ∷ l₆ ∷ l₇ ∷ l₈ ∷ []) (has _ ∷ has _ ∷ none ∷ none ∷ has _ ∷ has _ ∷ []) $ by ! (exits ys _ (no-desk ys (is-false (eqb (length ys) 8) h))))
+        frees-all ! (code.function .locals) (l₀ ∷ l₁ ∷ l₂ ∷ l₃ ∷ l₄ ∷ l₅ ∷ l₆ ∷ l₇ ∷ l₈ ∷ []) (has _ ∷ has _ ∷ none ∷ none ∷ has _ ∷ has _ ∷ []) $ by ! (exits ys _ (no-desk ys (is-false (eqb (length ys) 8) h) _ (omega arith))))
         (λ h. let eight = not-ne (length ys) 8 h in skips ! $ exec ! (𝓣 .C) (𝓣 .Λ) (env (code.function .locals) (l₀ ∷ l₁ ∷ l₂ ∷ l₃ ∷ l₄ ∷ l₅ ∷ l₆ ∷ l₇ ∷ l₈ ∷ [])) body.t-4 (atRet (env (code.function .locals) (l₀ ∷ l₁ ∷ l₂ ∷ l₃ ∷ l₄ ∷ l₅ ∷ l₆ ∷ l₇ ∷ l₈ ∷ [])) Post) $
         use0 W (raw (Shut 𝓤 H A mem run .pre to-shut)) goes-shut $ calls-at ! (fmOf 𝓤 H (W .laws) 𝓣) (Shut 𝓤 H A mem run) known to-shut (no-more !) (λ v.
         use1 W (later (some (λ (r : Seat). (‵ ftrue ⊛ ‵ (R .own r (v ∷ []))) ⊛ raw (ensured 𝓤 H A shut.ended (shut.clauses 𝓤 H A mem run) tt tt tt r)))) (id⊢ 𝓤 _) $ await ! tt $ pick ! (λ r.

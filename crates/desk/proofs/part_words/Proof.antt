@@ -13,7 +13,7 @@ use Rattle.desk.proofs.part_words.Tie as tie
 
 -- a part that is borrowed from w on stands w elements of 4 bytes behind the slice's place: at its word w
 placed : (s : RefT (List ℕ)) (w : ℕ) → (s .ptr .0, w * 4 + s .ptr .1) ≡ wordAt s w
-placed s w = let o = s .ptr .1 in let h : w * 4 + o ≡ o + 4 * w = omega arith in ap (λ (k : ℕ). (s .ptr .0, k)) h
+placed s w = ap (λ (k : ℕ). (s .ptr .0, k)) (omega arith)
 
 mul-a : tie.Need-mul-a
 mul-a c = search needs
