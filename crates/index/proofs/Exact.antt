@@ -28,7 +28,7 @@ use Rattle.image.proofs.Facts.{valid-facts}
 use Rattle.image.proofs.Sound.{set-rises}
 use Rattle.index.specs.declared.Parent.{Parent}
 use Rattle.index.specs.Searches.{FindsAncestors, parentNumber, parentFound, FindsParent, FindsDescendants, FindsChildren}
-use Rattle.index.specs.Exact.{AroundP, ParentOf, InBounds, ChildIn, OuterFirst, SoonerFirst, Exactly, Innermost}
+use Rattle.index.specs.Exact.{AncestorOf, ParentOf, DescendantIn, ChildIn, OuterFirst, SoonerFirst, Exactly, Innermost}
 use Rattle.index.proofs.Answers.{image-right}
 
 -- A FILTER lists what passes its test; of regions that ascend each is another one
@@ -39,16 +39,16 @@ apart : (rs : List Region) → Rising rs → Pairs (λ x y. x ≡ y → ⊥) rs
 apart rs up = pairs-mono (λ x y l e. let z = ap (λ (r : Region). r .start) e in omega arith) rs up
 
 -- ANCESTORS
-ancestors-exactly : (S : Set) (p : ℕ) → Rising (S .regions) → Nesting (S .regions) → Exactly S (AroundP p) OuterFirst (ancestors p S)
+ancestors-exactly : (S : Set) (p : ℕ) → Rising (S .regions) → Nesting (S .regions) → Exactly S (AncestorOf p) OuterFirst (ancestors p S)
 ancestors-exactly S p up nest =
     record {
-      those-meant = filtered (holds p) (AroundP p) (S .regions) (holds-says p);
+      those-meant = filtered (holds p) (AncestorOf p) (S .regions) (holds-says p);
       each-once = apart (ancestors p S) (pairs-kept (λ x y. x .start < y .start) (holds p) (S .regions) up);
       in-order = pairs-mono (λ x y h. true-so (contains-says x y) h) (ancestors p S) (ancestors-inward S p up nest);
     }
 
 -- DESCENDANTS and CHILDREN: filters of filters
-bounds-meant : (S : Set) (s e after : ℕ) (r : Region) → In r (descendants s e after S) ↔ (In r (S .regions) × InBounds s e after r)
+bounds-meant : (S : Set) (s e after : ℕ) (r : Region) → In r (descendants s e after S) ↔ (In r (S .regions) × DescendantIn s e after r)
 bounds-meant S s e after r = (
   (λ h.
       let f = filtered (startsBehind after) (λ x. after < x .start) (filter (inside s e) (S .regions)) (behind-says after) r .0 h in
@@ -63,7 +63,7 @@ descendants-rise : (S : Set) (s e after : ℕ) → Rising (S .regions) → Risin
 descendants-rise S s e after up =
     pairs-kept (λ x y. x .start < y .start) (startsBehind after) (filter (inside s e) (S .regions)) (pairs-kept (λ x y. x .start < y .start) (inside s e) (S .regions) up)
 
-descendants-exactly : (S : Set) (s e after : ℕ) → Rising (S .regions) → Exactly S (InBounds s e after) SoonerFirst (descendants s e after S)
+descendants-exactly : (S : Set) (s e after : ℕ) → Rising (S .regions) → Exactly S (DescendantIn s e after) SoonerFirst (descendants s e after S)
 descendants-exactly S s e after up =
     let rise = descendants-rise S s e after up in
     record { those-meant = bounds-meant S s e after; each-once = apart (descendants s e after S) rise; in-order = rise }
@@ -92,14 +92,14 @@ module _ (w : List ℕ) (n : ℕ) (z : n ≡ 0) where
 
   -- all of them are counted, and as many as fit are written, from the first on
   pub ancestors-listed : (a p : ℕ) (out out′ : List ℕ) (total made : ℕ) → FindsAncestors w a p out n total made out′
-      → (rs : List Region) × Exactly (setOf w) (AroundP p) OuterFirst rs × (total ≡ length rs) × (out′ ≡ written regionWords regionWidth out rs)
+      → (rs : List Region) × Exactly (setOf w) (AncestorOf p) OuterFirst rs × (total ≡ length rs) × (out′ ≡ written regionWords regionWidth out rs)
   ancestors-listed a p out out′ total made f =
       let v = image-valid (pointNo a p) (f .number-is) in
       (ancestors p (setOf w), ancestors-exactly (setOf w) p (rises v) (nests v), f .done z .0, f .done z .2)
 
   -- those that fit are counted and written, and whether more remain is told
   pub descendants-listed : (a s e after : ℕ) (out out′ : List ℕ) (count : ℕ) (more : Bool) → FindsDescendants w a s e after out n count more out′
-      → (rs : List Region) × Exactly (setOf w) (InBounds s e after) SoonerFirst rs
+      → (rs : List Region) × Exactly (setOf w) (DescendantIn s e after) SoonerFirst rs
       × (count ≡ countWritten regionWidth out rs) × (more ≡ moreRemain regionWidth out rs) × (out′ ≡ written regionWords regionWidth out rs)
   descendants-listed a s e after out out′ count more f =
       let v = image-valid (boundsNo a s e) (f .number-is) in
@@ -116,7 +116,7 @@ module _ (w : List ℕ) (n : ℕ) (z : n ≡ 0) where
 parents : (S : Set) (p l : ℕ) (r : Region) → In r (filter (isAbove l) (ancestors p S)) ↔ (In r (S .regions) × ParentOf p l r)
 parents S p l r =
     let f = filtered (isAbove l) (λ x. x .level + 1 ≡ l) (ancestors p S) (above-says l) r in
-    let g = filtered (holds p) (AroundP p) (S .regions) (holds-says p) r in
+    let g = filtered (holds p) (AncestorOf p) (S .regions) (holds-says p) r in
     ((λ h. let k = f .0 h in let m = g .0 (k .0) in (m .0, (m .1, k .1))), (λ h. f .1 (g .1 (h .0, h .1 .0), h .1 .1)))
 
 last-one : (us : List Region) (r x : Region) → All (λ y. contains y r ≡ true) us → In x (us ++ r ∷ []) → (x ≡ r) ⊎ OuterFirst x r

@@ -9,17 +9,17 @@ use Rattle.regions.specs.declared.Region.{Region}
 use Rattle.regions.specs.Sets.{Set}
 
 -- WHICH ARE MEANT: the ancestors of a position, and those of the level above the given one; the descendants inside bounds past "after", and those of the level below
-abbrev pub AroundP : ℕ → Region → Type 0
-AroundP p r = (r .start < p) × (p < r .end)
+abbrev pub AncestorOf : ℕ → Region → Type 0
+AncestorOf p r = (r .start < p) × (p < r .end)
 
 abbrev pub ParentOf : ℕ → ℕ → Region → Type 0
-ParentOf p level r = AroundP p r × (r .level + 1 ≡ level)
+ParentOf p level r = AncestorOf p r × (r .level + 1 ≡ level)
 
-abbrev pub InBounds : ℕ → ℕ → ℕ → Region → Type 0
-InBounds start end after r = (start < r .start) × (r .start < end) × (after < r .start)
+abbrev pub DescendantIn : ℕ → ℕ → ℕ → Region → Type 0
+DescendantIn start end after r = (start < r .start) × (r .start < end) × (after < r .start)
 
 abbrev pub ChildIn : ℕ → ℕ → ℕ → ℕ → Region → Type 0
-ChildIn start end level after r = InBounds start end after r × (r .level ≡ level + 1)
+ChildIn start end level after r = DescendantIn start end after r × (r .level ≡ level + 1)
 
 -- IN WHICH ORDER: the outer one first, so that starts rise and ends fall; or the one that starts first
 abbrev pub OuterFirst : Region → Region → Type 0

@@ -85,7 +85,7 @@ pub data Does : Lent → Call → Answer → Lent → Type 0 where
       → Does l (openSeat i a k limit) (tells number 0 false [] [] 0) (withSeats desk′ (l .buffer) l)
   closesSeat : {l : Lent} {number : ℕ} {desk′ : List Seat} (i : ℕ) → ClosesSeat (l .desk) i number desk′
       → Does l (closeSeat i) (tells number 0 false [] [] 0) (withSeats desk′ (l .buffer) l)
-  -- the buffer is lent as some reference, of which the part is a part; what is told is its words
+  -- the buffer is lent by some reference, and the part stands in it; what is told is the words of the part
   parts : {l : Lent} {buffer r : RefT (List ℕ)} (i n : ℕ) → now buffer ≡ l .buffer → LendsPart (l .desk) buffer i n r
       → Does l (askPart i n) (tells 0 0 false [] (now r) 0) l
   partNumbers : {l : Lent} {number : ℕ} (i n : ℕ) → PartNumber (l .desk) (l .buffer) i n number → Does l (askPartNo i n) (tells number 0 false [] [] 0) l
