@@ -27,7 +27,7 @@ endsBefore x y = ltb (x .end) (y .start)
 unfoldable pub contains : Region → Region → Bool
 contains x y = ltb (x .start) (y .start) && ltb (y .end) (x .end)
 
--- nested rightly, either way round. Whatever is not crosses: two regions that share an end position do
+-- nested rightly, either way round. Whatever is not crosses, so that two regions with a position in common, at any of their ends, cross
 unfoldable pub nested : Region → Region → Bool
 nested x y = (endsBefore x y || endsBefore y x) || (contains x y || contains y x)
 

@@ -98,7 +98,7 @@ fn walk_list(img: &[u32], head: u32, p: u32, task: Task, out: &mut [u32], start:
     t
 }
 
-// The list of key i: its stored pair tells whether there is anything to find in it.
+// The list of key i: read only where p lies between the two positions of its stored pair, since otherwise nothing in it holds p.
 fn key_list(
     img: &[u32],
     page: u32,

@@ -165,7 +165,7 @@ fn same_pair(k: KeyWords, start: u32, end: u32) -> bool
     k.end == end
 }
 
-// The stored pair of key i: it is taken from the head of the list, and has two zeros where there is no head.
+// Whether the stored pair of key i repeats the region at the head of its list, or is two zeros where there is none.
 fn pair_right(img: &[u32], p: u32, i: usize) -> bool
     requires { ⌜ i < 9 ⌝ }
     ensures { λ r. ⌜ r ≡ pairRight (keyAt (now (img .entry)) (pageOf (now (img .entry)) p) i) (keyAt (now (img .entry)) (pageOf (now (img .entry)) p) i .list) ⌝ }

@@ -49,7 +49,7 @@ separates (key k) (key l) = true
 unfoldable pub rule2 : (h : ℕ) → Tree h → Bool
 rule2 h t = allPairs separates (items h t)
 
--- (any such key will do. A split takes the one right before the second leaf's first start, as long as the first leaf ends before it: fewer regions are stabbed then. Otherwise it takes that start)
+-- (any such key will do. A split takes the one right before the second leaf's first start, unless an entry of the first leaf starts there: fewer regions are stabbed then. Otherwise it takes that first start)
 unfoldable pub keyBetween : ℕ → ℕ → ℕ
 keyBetween last first = cond (ltb last (first - 1)) (first - 1) first
 
