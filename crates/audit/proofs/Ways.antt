@@ -1,12 +1,10 @@
 -- The ways out of an audit: a part that fails makes the image invalid, three that pass make it valid.
 -- Assumes nothing.
 use Prim.Native.Nat.{ℕ, _<_}
-use mathlib.Core.Path.{_≡_, refl, sym, ap, _∙_}
-use mathlib.Core.Bool.{Bool, true, false, _&&_, true≢false, false≢true}
+use mathlib.Core.Path.{_≡_, sym, _∙_}
+use mathlib.Core.Bool.{Bool, true, false, true≢false}
 use mathlib.Core.List.{List}
 use lib.ListN.{getD}
-use lib.Dec.{T}
-use Rattle.words.proofs.Tests.{T-of, and-false}
 use Rattle.regions.specs.Sets.{heldBy}
 use Rattle.image.specs.Read.{setOf}
 use Rattle.image.specs.Valid.{valid}

@@ -5,6 +5,7 @@ use mathlib.Core.Path.{_≡_}
 use mathlib.Core.Bool.{Bool, true}
 use mathlib.Core.List.{List}
 use lib.ListN.{getD}
+use Rattle.regions.specs.Limits.{accountCount}
 use Rattle.regions.specs.Sets.{heldBy}
 use Rattle.image.specs.Read.{setOf}
 use Rattle.image.specs.Valid.{valid}
@@ -12,4 +13,4 @@ use Rattle.image.specs.Valid.{valid}
 -- valid or not, exactly; and how many regions each account holds
 pub record Reports (w : List ℕ) (ok : Bool) (held : List ℕ) : Type 0 where
   pub decides : ok ≡ valid w
-  pub counts : valid w ≡ true → (a : ℕ) → a < 16 → getD held a 0 ≡ heldBy a (setOf w)
+  pub counts : valid w ≡ true → (a : ℕ) → a < accountCount → getD held a 0 ≡ heldBy a (setOf w)

@@ -11,7 +11,7 @@ ghost use Rattle.audit.specs.Report.{Reports};
 // Whether the image is valid; and, where it is, how many regions each account holds, so that a save need not count again.
 pub struct Report {
     pub ok: bool,
-    pub held: [u32; 16],
+    pub held: [u32; regions::ACCOUNT_COUNT],
 }
 
 fn refused() -> Report

@@ -70,7 +70,7 @@ fn case(img: &mut [u32]) {
 }
 
 fn main() {
-    let mut img = [0u32; 12288];
+    let mut img = [0u32; pages::IMAGE_WORDS];
     console::next_words(&mut img);
     tell(&img);
     let cases = console::next_word();

@@ -63,7 +63,10 @@ fn kind_of(kind: u32) -> Kind
 
 // Opens a set.
 #[no_mangle]
-pub extern "C" fn sasnuvarth_open_set(img: &mut [u32], shares: &[u32; 16]) -> u32
+pub extern "C" fn sasnuvarth_open_set(
+    img: &mut [u32],
+    shares: &[u32; regions::ACCOUNT_COUNT],
+) -> u32
     ensures { λ r. ⌜ OpensSet (now (img .entry)) (now (shares .entry)) r (now (img .exit)) ⌝ }
 {
     let given = *shares;
@@ -226,7 +229,7 @@ pub struct FlatSeat {
 
 #[repr(C)]
 pub struct FlatDesk {
-    pub seats: [FlatSeat; 8],
+    pub seats: [FlatSeat; regions::SEAT_COUNT],
 }
 
 // A desk after a call, and the call's number.
@@ -240,7 +243,7 @@ pub struct DeskAnswer {
 #[repr(C)]
 pub struct RoundAnswer {
     pub number: u32,
-    pub counts: [u32; 8],
+    pub counts: [u32; regions::SEAT_COUNT],
     pub desk: FlatDesk,
 }
 
@@ -281,7 +284,7 @@ fn seat_of(f: FlatSeat) -> Seat
     Seat { state: state }
 }
 
-fn seats_of(f: [FlatSeat; 8]) -> [Seat; 8]
+fn seats_of(f: [FlatSeat; regions::SEAT_COUNT]) -> [Seat; regions::SEAT_COUNT]
     ensures { λ r. ⌜ r ≡ map seatOf f ⌝ }
 {
     let s0 = seat_of(f[0]);
@@ -351,7 +354,7 @@ fn flat_seat(s: Seat) -> FlatSeat
     }
 }
 
-fn flat_desk(seats: [Seat; 8]) -> FlatDesk
+fn flat_desk(seats: [Seat; regions::SEAT_COUNT]) -> FlatDesk
     ensures { λ r. ⌜ r .seats ≡ map flatSeat seats ⌝ }
 {
     let f0 = flat_seat(seats[0]);
@@ -367,7 +370,7 @@ fn flat_desk(seats: [Seat; 8]) -> FlatDesk
 }
 
 // The desk that a call hands back: the one given where it is refused.
-fn desk_left(number: u32, given: FlatDesk, seats: [Seat; 8]) -> FlatDesk
+fn desk_left(number: u32, given: FlatDesk, seats: [Seat; regions::SEAT_COUNT]) -> FlatDesk
     ensures { λ r. ⌜ r .seats ≡ unless number (map flatSeat seats) (given .seats) ⌝ }
 {
     if number == 0 {
@@ -383,7 +386,7 @@ pub extern "C" fn sasnuvarth_open_desk() -> FlatDesk
 {
     let shut = State::Closed;
     let s = Seat { state: shut };
-    let seats = [s; 8];
+    let seats = [s; regions::SEAT_COUNT];
     let opened = desk::open_desk_by_value(seats);
     let left = opened.seats;
     flat_desk(left)
@@ -462,7 +465,7 @@ pub extern "C" fn sasnuvarth_part(desk: FlatDesk, buffer: &[u32], i: u32, count:
     if number == 0 {
         return PartAnswer {
             number: 0,
-            first: 128 * words::wide(i),
+            first: regions::SEAT_WIDTH * words::wide(i),
             words: 4 * words::wide(count),
         };
     }

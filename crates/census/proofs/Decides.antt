@@ -18,7 +18,7 @@ use Rattle.regions.specs.Sets.{Set, of, heldBy, shareOf}
 use Rattle.regions.specs.declared.Region.{Region}
 use Rattle.xrtree.specs.Rules.{sharesKept, rule6}
 use Rattle.census.specs.Pass.{pop, under, Passed, refused, going, leftFor, takeOne, enter, pass}
-use Rattle.census.proofs.Shares.{some-at, sum-down}
+use Rattle.census.proofs.Shares.{some-at}
 
 -- x starts first
 abbrev pub First : Region → Region → Type 0
@@ -206,18 +206,6 @@ left-after (r ∷ rs) st left k a =
     let i = left-after rs (r .end ∷ pop (r .start) st) (takeOne r left) (rw (f .1) at k) a in
     rw (f .1) (omega (arith, i, held-more a r rs, took-one a r left (f .0)))
 
--- and of all of them together
-none-taken : (st left : List ℕ) → length {A = Region} [] + sum (pass [] (going st left) .left) ≡ sum left
-unfolding pass
-none-taken st left = omega arith
-
-all-after : (rs : List Region) (st left : List ℕ) → pass rs (going st left) .ok ≡ true → length rs + sum (pass rs (going st left) .left) ≡ sum left
-all-after [] st left k = none-taken st left
-all-after (r ∷ rs) st left k =
-    let f = first-in r rs st left k in
-    let i = all-after rs (r .end ∷ pop (r .start) st) (takeOne r left) (rw (f .1) at k) in
-    rw (f .1) (omega (arith, i, sum-down left (account (r .start)) (leftFor r left) refl (f .0)))
-
 -- RULE 6
 formed-bound : (r : Region) → Formed r → r .start < r .end
 unfolding wellFormed wellBound
@@ -309,9 +297,3 @@ rule-over S h = rw (h, and-false, and-false, and-false)
 
 pub held-is : (S : Set) → pass (S .regions) (going [] (S .shares)) .ok ≡ true → (a : ℕ) → (heldBy a S + getD (pass (S .regions) (going [] (S .shares)) .left) a 0 ≡ shareOf a S)
 held-is S k a = left-after (S .regions) [] (S .shares) k a
-
--- no more regions than the shares allow together
-pub at-most-500 : (S : Set) → Pairs First (S .regions) → All Small (S .regions) → rule6 S ≡ true → length (S .regions) ≤ 500
-at-most-500 S f s h =
-    let k = rule-says S f .yes-so (T-of h) .1 .1 .1 in
-    omega (arith, all-after (S .regions) [] (S .shares) (pass-decides S f s k ∙ h))

@@ -18,7 +18,7 @@ use Rattle.census.specs.Pass.{Passed, going, refused, pass, stackOf, pas
 use Rattle.census.specs.declared.Way.{Way}
 use Rattle.census.specs.declared.Census.{Census}
 use Rattle.census.proofs.Shares.{share-at}
-use Rattle.census.proofs.Decides.{pass-decides, rule-over, held-is, at-most-500}
+use Rattle.census.proofs.Decides.{pass-decides, rule-over, held-is}
 use Rattle.census.proofs.Shaped.{SmallWords, shape-long, shape-high, shape-fills, shape-ascends, set-small, set-shares, set-regions}
 
 -- what is asked before the pass
@@ -76,7 +76,3 @@ module _ (w : List ℕ) (o : Way) (stack left : List ℕ) (e : passed o stack le
   pub whole-left : o .ok ≡ true → (a : ℕ) → a < 16 → heldBy a (setOf w) + getD left a 0 ≡ getD w (2 + a) 0
   whole-left h a l =
       ap (λ (v : List ℕ). heldBy a (setOf w) + getD v a 0) (sym (left-is h)) ∙ held-is (setOf w) (sym ended ∙ h) a ∙ ap (λ (v : List ℕ). getD v a 0) (set-shares w) ∙ share-at w a l
-
--- an image that the census finds right holds at most 500 regions
-pub regions-few : (w : List ℕ) → T (shapely w) → SmallWords w → rule6 (setOf w) ≡ true → length (setOf w .regions) ≤ 500
-regions-few w t s h = at-most-500 (setOf w) (shape-ascends w t) (set-small w s) h

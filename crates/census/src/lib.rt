@@ -6,6 +6,7 @@ ghost use Prim.Native.Nat.{ℕ, _+_, _-_, _<_, _≤_};
 ghost use lib.Dec.{T, leb};
 ghost use lib.ListN.{length, getD};
 ghost use Rattle.words.specs.Lists.{sum};
+ghost use Rattle.regions.specs.Limits.{mostRegions};
 ghost use Rattle.regions.specs.Sets.{heldBy};
 ghost use Rattle.xrtree.specs.Rules.{rule6};
 ghost use Rattle.pages.specs.Layout.{sharesOf};
@@ -14,10 +15,13 @@ ghost use Rattle.image.specs.Shape.{shapely};
 ghost use Rattle.census.specs.Pass.{pop, enter, pass, stackOf, passed, shut, regionsAt, Fills, Fitting};
 use regions::Region;
 
+// Regions that are open at once, at most.
+const MOST_OPEN: usize = 500;
+
 // Whether the regions are right, and if so how many each account holds.
 pub struct Census {
     pub ok: bool,
-    pub held: [u32; 16],
+    pub held: [u32; regions::ACCOUNT_COUNT],
 }
 
 // How far the pass has come: whether all went well, and how many regions are open.
@@ -29,13 +33,13 @@ pub struct Way {
 // Whether the shares are at most 500 together, by what is left of 500 at each: so no sum can wrap.
 fn shares_fit(img: &[u32]) -> bool
     requires { ⌜ 18 ≤ length (now img) ⌝ }
-    ensures { λ r. ⌜ r ≡ leb (sum (sharesOf (now (img .entry)))) 500 ⌝ }
+    ensures { λ r. ⌜ r ≡ leb (sum (sharesOf (now (img .entry)))) mostRegions ⌝ }
 {
     let mut total: u32 = 0;
     let mut i = 0;
     while i < 16 {
         let share = words::word(img, 2 + i);
-        if share > 500 - total {
+        if share > regions::MOST_REGIONS - total {
             return false;
         }
         total += share;
@@ -142,7 +146,7 @@ fn tree_regions(img: &[u32], depth: u32, p: u32, stack: &mut [u32], left: &mut [
 }
 
 // What was taken of each share, once no more was taken than there was.
-fn taken(img: &[u32], left: &[u32]) -> [u32; 16]
+fn taken(img: &[u32], left: &[u32]) -> [u32; regions::ACCOUNT_COUNT]
     requires { ⌜ ((a : ℕ) → a < 16 → getD (now left) a 0 ≤ getD (now img) (2 + a) 0) ⌝ }
     ensures { λ r. ⌜ ((a : ℕ) → a < 16 → getD r a 0 ≡ getD (now (img .entry)) (2 + a) 0 - getD (now (left .entry)) a 0) ⌝ }
 {
@@ -176,7 +180,7 @@ pub fn take_census(img: &[u32]) -> Census
     }
     let mut left = [0u32; 16];
     copy_shares(img, &mut left);
-    let mut stack = [0u32; 500];
+    let mut stack = [0u32; MOST_OPEN];
     let start = Way { ok: true, top: 0 };
     let end = tree_regions(
         img,

@@ -3,6 +3,7 @@ ghost use mathlib.Core.Path.{_≡_};
 ghost use Prim.Native.Nat.{_<_};
 ghost use lib.Dec.{T};
 ghost use lib.ListN.{getD};
+ghost use Rattle.regions.specs.Limits.{accountCount};
 ghost use Rattle.regions.specs.Sets.{heldBy};
 ghost use Rattle.image.specs.Read.{setOf};
 ghost use Rattle.image.specs.Valid.{valid};
@@ -10,9 +11,9 @@ ghost use Rattle.changes.specs.Changed.{SavesIn, DeletesIn};
 use regions::Region;
 
 // A save; the account's held regions have been counted.
-pub fn save(img: &mut [u32], account: u32, r: Region, held: [u32; 16]) -> u32
+pub fn save(img: &mut [u32], account: u32, r: Region, held: [u32; regions::ACCOUNT_COUNT]) -> u32
     requires { ⌜ T (valid (now img)) ⌝ }
-    requires { ⌜ (account < 16 → getD held account 0 ≡ heldBy account (setOf (now img))) ⌝ }
+    requires { ⌜ (account < accountCount → getD held account 0 ≡ heldBy account (setOf (now img))) ⌝ }
     ensures { λ n. ⌜ SavesIn (now (img .entry)) account r n (now (img .exit)) ⌝ }
 {
     let number = refuse::save_number(img, account, r, held);

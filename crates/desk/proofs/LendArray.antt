@@ -7,7 +7,7 @@
 --     laid, laid-is    the array as a struct's field has it: the machine value is the same, and the relation holds (`Denote/Struct/Field.antt`'s `array-field` maps its elements)
 -- Assumes nothing; `Given` is handed in.
 use mathlib.Core.Path.{_≡_, refl, sym, _∙_, ap, subst}
-use Prim.Native.Nat.{ℕ, _<_}
+use Prim.Native.Nat.{ℕ}
 use mathlib.Core.List.{List, [], _∷_, map}
 use lib.Dec.{T, lit<}
 use lib.ListN.{length, length-map}

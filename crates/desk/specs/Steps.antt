@@ -9,6 +9,7 @@ use lib.ListN.{length, take, drop, set, getD}
 use lib.Seq.{sets}
 use denote.Ref.{RefT, ptr, now}
 use Rattle.words.specs.Lists.{firstNo}
+use Rattle.regions.specs.Limits.{bufferWords, lastAccount, lastSeat, mostARound}
 use Rattle.regions.specs.Numbers.{SEAT, ACCOUNT, LIMIT, DESK, unless, imageFirst}
 use Rattle.regions.specs.Sets.{Set}
 use Rattle.regions.specs.Desk.{closed, opened, openAt, stateOpen, stateLimit, seatFits, seatWord, turned, handedWords, countHanded}
@@ -26,7 +27,7 @@ seatOf t = record { state = t }
 
 -- OPENING one seat: its number behind the tests of the desk and of i, and the seat afterwards
 abbrev pub opensNo : State → ℕ → ℕ → ℕ
-opensNo t a l = firstNo ((stateOpen t, SEAT) ∷ (ltb 15 a, ACCOUNT) ∷ (ltb 32 l, LIMIT) ∷ [])
+opensNo t a l = firstNo ((stateOpen t, SEAT) ∷ (ltb lastAccount a, ACCOUNT) ∷ (ltb mostARound l, LIMIT) ∷ [])
 
 pub record Opens (s : Seat) (a : ℕ) (k : Kind) (l number : ℕ) (s′ : Seat) : Type 0 where
   pub number-is : number ≡ opensNo (s .state) a l
@@ -55,17 +56,17 @@ pub record PartBy (number : ℕ) (buffer : RefT (List ℕ)) (i n : ℕ) (r : Ref
 
 -- where the number is 0, the words are there
 abbrev pub PartThere : ℕ → List ℕ → ℕ → ℕ → Type 0
-PartThere number b i n = number ≡ 0 → (length b ≡ 1024) × (i ≤ 7) × (n ≤ 32)
+PartThere number b i n = number ≡ 0 → (length b ≡ bufferWords) × (i ≤ lastSeat) × (n ≤ mostARound)
 
 -- A ROUND'S number: images, desk, words of the buffer
 abbrev pub roundsNo : Bool → Bool → ℕ → ℕ
-roundsNo images desk words = imageFirst images (firstNo ((not (desk && eqb words 1024), DESK) ∷ []))
+roundsNo images desk words = imageFirst images (firstNo ((not (desk && eqb words bufferWords), DESK) ∷ []))
 
 -- A SEAT'S TURN: what it asks, and what it leaves
 pub record MayTurn (outer inner : List ℕ) (s : Seat) (b : List ℕ) (i : ℕ) : Type 0 where
   pub outer-valid : valid outer ≡ true
   pub inner-valid : valid inner ≡ true
-  pub words : length b ≡ 1024
+  pub words : length b ≡ bufferWords
   pub seat : i < 8
   pub fits : seatFits s ≡ true
 

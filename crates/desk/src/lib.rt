@@ -4,6 +4,7 @@ ghost use mathlib.Core.Path.{_≡_};
 ghost use mathlib.Core.Bool.{_&&_};
 ghost use Prim.Native.Nat.{_<_, _≤_};
 ghost use lib.ListN.{length};
+ghost use Rattle.regions.specs.Limits.{bufferWords, mostARound, seatCount};
 ghost use Rattle.regions.specs.Desk.{openAt, markFits, seatFits, deskFits, closed, limitAsked};
 ghost use Rattle.image.specs.Read.{setOf};
 ghost use Rattle.image.specs.Valid.{valid};
@@ -38,13 +39,13 @@ fn seat_fits(s: Seat) -> bool
     match st {
         State::Closed => true,
         State::Open(o) => {
-            if 15 < o.account {
+            if regions::LAST_ACCOUNT < o.account {
                 return false;
             }
             if o.limit < 1 {
                 return false;
             }
-            if 32 < o.limit {
+            if regions::MOST_A_ROUND < o.limit {
                 return false;
             }
             let m = o.mark;
@@ -63,7 +64,7 @@ fn still_fits(ok: bool, s: Seat) -> bool
 fn desk_fits(desk: &[Seat]) -> bool
     ensures { λ r. ⌜ r ≡ deskFits (now (desk .entry)) ⌝ }
 {
-    let mut ok = desk.len() == 8;
+    let mut ok = desk.len() == regions::SEAT_COUNT;
     let n = desk.len();
     let mut i = 0;
     while i < n {
@@ -84,12 +85,12 @@ fn closed_seat() -> Seat
 pub fn open_desk(desk: &mut [Seat]) -> u32
     ensures { λ r. ⌜ OpensDesk (now (desk .entry)) r (now (desk .exit)) ⌝ }
 {
-    if desk.len() != 8 {
-        return 11; // the one test: what the seats hold is not asked
+    if desk.len() != regions::SEAT_COUNT {
+        return regions::DESK; // the one test: what the seats hold is not asked
     }
     let s = closed_seat();
     let mut at = 0;
-    while at < 8 {
+    while at < regions::SEAT_COUNT {
         desk[at] = s;
         at += 1;
     }
@@ -107,7 +108,7 @@ fn limit_asked(limit: u32) -> u32
     ensures { λ r. ⌜ r ≡ limitAsked limit ⌝ }
 {
     if limit == 0 {
-        return 32;
+        return regions::HOUSE_LIMIT;
     }
     limit
 }
@@ -117,15 +118,21 @@ fn opens(s: Seat, account: u32, kind: Kind, limit: u32) -> Change
 {
     let st = s.state;
     match st {
-        State::Open(_) => Change { seat: s, number: 9 },
+        State::Open(_) => Change {
+            seat: s,
+            number: regions::SEAT,
+        },
         State::Closed => {
-            if 15 < account {
-                return Change { seat: s, number: 3 };
-            }
-            if 32 < limit {
+            if regions::LAST_ACCOUNT < account {
                 return Change {
                     seat: s,
-                    number: 10,
+                    number: regions::ACCOUNT,
+                };
+            }
+            if regions::MOST_A_ROUND < limit {
+                return Change {
+                    seat: s,
+                    number: regions::LIMIT,
                 };
             }
             let m = Mark::Fresh;
@@ -147,7 +154,10 @@ fn closes(s: Seat) -> Change
 {
     let st = s.state;
     match st {
-        State::Closed => Change { seat: s, number: 9 },
+        State::Closed => Change {
+            seat: s,
+            number: regions::SEAT,
+        },
         State::Open(_) => Change {
             seat: closed_seat(),
             number: 0,
@@ -160,10 +170,10 @@ pub fn open_seat(desk: &mut [Seat], i: u32, account: u32, kind: Kind, limit: u32
     ensures { λ r. ⌜ OpensSeat (now (desk .entry)) i account kind limit r (now (desk .exit)) ⌝ }
 {
     if !desk_fits(desk) {
-        return 11;
+        return regions::DESK;
     }
-    if 7 < i {
-        return 9;
+    if regions::LAST_SEAT < i {
+        return regions::SEAT;
     }
     let at = i as usize;
     let c = opens(desk[at], account, kind, limit);
@@ -176,10 +186,10 @@ pub fn close_seat(desk: &mut [Seat], i: u32) -> u32
     ensures { λ r. ⌜ ClosesSeat (now (desk .entry)) i r (now (desk .exit)) ⌝ }
 {
     if !desk_fits(desk) {
-        return 11;
+        return regions::DESK;
     }
-    if 7 < i {
-        return 9;
+    if regions::LAST_SEAT < i {
+        return regions::SEAT;
     }
     let at = i as usize;
     let c = closes(desk[at]);
@@ -193,11 +203,11 @@ fn asked_of(s: Seat, count: u32) -> u32
 {
     let st = s.state;
     match st {
-        State::Closed => 9,
+        State::Closed => regions::SEAT,
         State::Open(o) => {
             let limit = o.limit;
             if limit < count {
-                return 10;
+                return regions::LIMIT;
             }
             0
         }
@@ -209,13 +219,13 @@ pub fn part_number(desk: &[Seat], buffer: &[u32], i: u32, count: u32) -> u32
     ensures { λ r. ⌜ PartNumber (now (desk .entry)) (now (buffer .entry)) i count r ⌝ }
 {
     if !desk_fits(desk) {
-        return 11;
+        return regions::DESK;
     }
-    if buffer.len() != 1024 {
-        return 11;
+    if buffer.len() != regions::BUFFER_WORDS {
+        return regions::DESK;
     }
-    if 7 < i {
-        return 9;
+    if regions::LAST_SEAT < i {
+        return regions::SEAT;
     }
     let at = i as usize;
     asked_of(desk[at], count)
@@ -227,8 +237,8 @@ fn part_words<'a>(buffer: &'a [u32], number: u32, i: u32, count: u32) -> &'a [u3
     ensures { λ r. ⌜ PartBy number (buffer .entry) i count r ⌝ }
 {
     if number == 0 {
-        let a = 128 * (i as usize);
-        let e = a + 4 * (count as usize);
+        let a = regions::SEAT_WIDTH * (i as usize);
+        let e = a + regions::PAIR_WIDTH * (count as usize);
         return &buffer[a..e];
     }
     &buffer[0..0]
@@ -258,21 +268,21 @@ fn round_number(images: bool, desk: bool, words: usize) -> u32
     ensures { λ r. ⌜ r ≡ roundsNo images desk words ⌝ }
 {
     if !images {
-        return 1;
+        return regions::IMAGE;
     }
     if !desk {
-        return 11;
+        return regions::DESK;
     }
-    if words == 1024 {
+    if words == regions::BUFFER_WORDS {
         return 0;
     }
-    11
+    regions::DESK
 }
 
 // A seat after its turn, and the counts with its own.
 pub struct Turn {
     pub seat: Seat,
-    pub counts: [u32; 8],
+    pub counts: [u32; regions::SEAT_COUNT],
 }
 
 // How many pairs an open seat is handed in a turn, at most.
@@ -289,8 +299,8 @@ fn hand(outer: &[u32], inner: &[u32], o: Open, buffer: &mut [u32], i: usize) -> 
 {
     let kind = o.kind;
     let mark = o.mark;
-    let a = 128 * i;
-    let e = a + 4 * pairs_a_turn(o);
+    let a = regions::SEAT_WIDTH * i;
+    let e = a + regions::PAIR_WIDTH * pairs_a_turn(o);
     join::pairs_past(
         outer,
         inner,
@@ -304,13 +314,13 @@ fn hand(outer: &[u32], inner: &[u32], o: Open, buffer: &mut [u32], i: usize) -> 
 
 // The mark behind n pairs in seat i's part: read back from the last of them, or as it was where there is none.
 fn mark_behind(mark: Mark, buffer: &[u32], i: usize, n: usize) -> Mark
-    requires { ⌜ (i < 8) × (n ≤ 32) × (length (now buffer) ≡ 1024) ⌝ }
+    requires { ⌜ (i < seatCount) × (n ≤ mostARound) × (length (now buffer) ≡ bufferWords) ⌝ }
     ensures { λ r. ⌜ r ≡ markRead mark (now (buffer .entry)) i n ⌝ }
 {
     if n == 0 {
         return mark;
     }
-    let last = 128 * i + 4 * (n - 1);
+    let last = regions::SEAT_WIDTH * i + regions::PAIR_WIDTH * (n - 1);
     Mark::Last(buffer[last], buffer[last + 2])
 }
 
@@ -321,7 +331,7 @@ fn seat_turn(
     s: Seat,
     buffer: &mut [u32],
     i: usize,
-    counts: [u32; 8],
+    counts: [u32; regions::SEAT_COUNT],
 ) -> Turn
     requires { ⌜ MayTurn (now outer) (now inner) s (now buffer) i ⌝ }
     ensures { λ r. ⌜ Turns (setOf (now (outer .entry))) (setOf (now (inner .entry))) s (now (buffer .entry)) i counts (r .seat) (r .counts) (now (buffer .exit)) ⌝ }
@@ -355,7 +365,7 @@ fn seat_turn(
 // A round's answer.
 pub struct Dealt {
     pub number: u32,
-    pub counts: [u32; 8],
+    pub counts: [u32; regions::SEAT_COUNT],
 }
 
 // Serves the seats from 0 to 7, each into its own words of the buffer.
@@ -363,10 +373,10 @@ pub fn round(outer: &[u32], inner: &[u32], desk: &mut [Seat], buffer: &mut [u32]
     ensures { λ r. ⌜ Rounds (now (outer .entry)) (now (inner .entry)) (now (desk .entry)) (now (buffer .entry)) (r .number) (r .counts) (now (desk .exit)) (now (buffer .exit)) ⌝ }
 {
     let number = round_number(images_valid(outer, inner), desk_fits(desk), buffer.len());
-    let mut counts = [0u32; 8];
+    let mut counts = [0u32; regions::SEAT_COUNT];
     if number == 0 {
         let mut i = 0;
-        while i < 8 {
+        while i < regions::SEAT_COUNT {
             let t = seat_turn(outer, inner, desk[i], buffer, i, counts);
             desk[i] = t.seat;
             counts = t.counts;
@@ -383,11 +393,11 @@ pub fn round(outer: &[u32], inner: &[u32], desk: &mut [Seat], buffer: &mut [u32]
 
 // The seats after a call, and its number.
 pub struct Seated {
-    pub seats: [Seat; 8],
+    pub seats: [Seat; regions::SEAT_COUNT],
     pub number: u32,
 }
 
-pub fn open_desk_by_value(seats: [Seat; 8]) -> Seated
+pub fn open_desk_by_value(seats: [Seat; regions::SEAT_COUNT]) -> Seated
     ensures { λ r. ⌜ OpensDesk seats (r .number) (r .seats) ⌝ }
 {
     let mut desk = seats;
@@ -398,7 +408,13 @@ pub fn open_desk_by_value(seats: [Seat; 8]) -> Seated
     }
 }
 
-pub fn open_seat_by_value(seats: [Seat; 8], i: u32, account: u32, kind: Kind, limit: u32) -> Seated
+pub fn open_seat_by_value(
+    seats: [Seat; regions::SEAT_COUNT],
+    i: u32,
+    account: u32,
+    kind: Kind,
+    limit: u32,
+) -> Seated
     ensures { λ r. ⌜ OpensSeat seats i account kind limit (r .number) (r .seats) ⌝ }
 {
     let mut desk = seats;
@@ -409,7 +425,7 @@ pub fn open_seat_by_value(seats: [Seat; 8], i: u32, account: u32, kind: Kind, li
     }
 }
 
-pub fn close_seat_by_value(seats: [Seat; 8], i: u32) -> Seated
+pub fn close_seat_by_value(seats: [Seat; regions::SEAT_COUNT], i: u32) -> Seated
     ensures { λ r. ⌜ ClosesSeat seats i (r .number) (r .seats) ⌝ }
 {
     let mut desk = seats;
@@ -422,12 +438,17 @@ pub fn close_seat_by_value(seats: [Seat; 8], i: u32) -> Seated
 
 // The seats after a round, its number and its counts.
 pub struct Rounded {
-    pub seats: [Seat; 8],
+    pub seats: [Seat; regions::SEAT_COUNT],
     pub number: u32,
-    pub counts: [u32; 8],
+    pub counts: [u32; regions::SEAT_COUNT],
 }
 
-pub fn round_by_value(outer: &[u32], inner: &[u32], seats: [Seat; 8], buffer: &mut [u32]) -> Rounded
+pub fn round_by_value(
+    outer: &[u32],
+    inner: &[u32],
+    seats: [Seat; regions::SEAT_COUNT],
+    buffer: &mut [u32],
+) -> Rounded
     ensures { λ r. ⌜ Rounds (now (outer .entry)) (now (inner .entry)) seats (now (buffer .entry)) (r .number) (r .counts) (r .seats) (now (buffer .exit)) ⌝ }
 {
     let mut desk = seats;
@@ -439,13 +460,23 @@ pub fn round_by_value(outer: &[u32], inner: &[u32], seats: [Seat; 8], buffer: &m
     }
 }
 
-pub fn part_by_value<'a>(seats: [Seat; 8], buffer: &'a [u32], i: u32, count: u32) -> &'a [u32]
+pub fn part_by_value<'a>(
+    seats: [Seat; regions::SEAT_COUNT],
+    buffer: &'a [u32],
+    i: u32,
+    count: u32,
+) -> &'a [u32]
     ensures { λ r. ⌜ LendsPart seats (buffer .entry) i count r ⌝ }
 {
     part(&seats, buffer, i, count)
 }
 
-pub fn part_number_by_value(seats: [Seat; 8], buffer: &[u32], i: u32, count: u32) -> u32
+pub fn part_number_by_value(
+    seats: [Seat; regions::SEAT_COUNT],
+    buffer: &[u32],
+    i: u32,
+    count: u32,
+) -> u32
     ensures { λ r. ⌜ PartNumber seats (now (buffer .entry)) i count r ⌝ }
 {
     part_number(&seats, buffer, i, count)

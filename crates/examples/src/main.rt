@@ -127,9 +127,9 @@ fn closed_seat() -> Seat {
 }
 
 // The desk with seat 0 open for account 0's ancestor join, at limit 3.
-fn open_desk() -> [Seat; 8] {
+fn open_desk() -> [Seat; regions::SEAT_COUNT] {
     let s = closed_seat();
-    let seats = [s; 8];
+    let seats = [s; regions::SEAT_COUNT];
     let d = desk::open_desk_by_value(seats);
     let desk = d.seats;
     let kind = Kind::Ancestor;
@@ -139,12 +139,12 @@ fn open_desk() -> [Seat; 8] {
 
 // A round: the seats as it leaves them, and what seat 0 was handed.
 struct Served {
-    seats: [Seat; 8],
+    seats: [Seat; regions::SEAT_COUNT],
     handed: usize,
 }
 
-fn serve(outer: &[u32], inner: &[u32], seats: [Seat; 8]) -> Served {
-    let mut buffer = [0u32; 1024];
+fn serve(outer: &[u32], inner: &[u32], seats: [Seat; regions::SEAT_COUNT]) -> Served {
+    let mut buffer = [0u32; regions::BUFFER_WORDS];
     let r = desk::round_by_value(outer, inner, seats, &mut buffer);
     let counts = r.counts;
     let s = r.seats;
@@ -227,8 +227,8 @@ fn keys_go(img: &mut [u32]) {
 }
 
 fn main() {
-    let mut outer = [0u32; 12288];
-    let mut inner = [0u32; 12288];
+    let mut outer = [0u32; pages::IMAGE_WORDS];
+    let mut inner = [0u32; pages::IMAGE_WORDS];
     saves(&mut outer);
     full_account(&mut outer);
     open_outer(&mut outer, 10);

@@ -1,16 +1,14 @@
 -- Lists in the words: one reading, each place once, unchanged where their records are.
 -- Assumes nothing.
-use Prim.Native.Nat.{ℕ, zero, suc, _+_, _≤_, _<_}
-use mathlib.Core.Path.{_≡_, refl, sym, ap, ap₂, _∙_, subst}
-use mathlib.Core.Logic.{_≢_}
+use Prim.Native.Nat.{ℕ, zero, suc, _≤_, _<_}
+use mathlib.Core.Path.{_≡_, refl, sym, ap, subst}
 use mathlib.Core.Bool.{Bool, true, false, cond}
-use mathlib.Core.List.{List, [], _∷_, _++_, map}
+use mathlib.Core.List.{List, [], _∷_, map}
 use lib.Dec.{eqb}
 use lib.ListN.{length}
 use native.Mathlib.Omega.{arith}
-use Rattle.words.specs.Lists.{All, all}
-use Rattle.words.proofs.Tests.{by-test, eq-yes, eq-no, eq-of, ne-of}
-use Rattle.regions.specs.declared.Region.{Region}
+use Rattle.words.specs.Lists.{All}
+use Rattle.words.proofs.Tests.{eq-no, eq-of}
 use Rattle.pages.specs.Layout.{recordOf, recordNext}
 use Rattle.image.specs.Read.{chain, recordRegion}
 use Rattle.holding.specs.Held.{Chain}

@@ -1,17 +1,15 @@
 -- A tree is held as before where its pages and records are as before.
 -- Assumes nothing.
-use Prim.Native.Nat.{ℕ, zero, suc, _+_, _≤_, _<_}
-use mathlib.Core.Path.{_≡_, refl, sym, ap, ap₂, _∙_, subst}
-use mathlib.Core.List.{List, [], _∷_, _++_, map}
-use lib.ListN.{length}
+use Prim.Native.Nat.{ℕ, zero, suc}
+use mathlib.Core.Path.{_≡_, sym, _∙_, subst}
+use mathlib.Core.List.{List, [], _∷_, _++_}
 use Rattle.words.specs.Lists.{All}
 use Rattle.words.proofs.Listed.{all-left, all-right, all-append}
-use Rattle.xrtree.specs.Tree.{Entry, Key, Leaf, Inner, Tree, weave, listed, listPages, listRecords, pagePlaces, recordPlaces}
+use Rattle.xrtree.specs.Tree.{Key, Inner, Tree, weave, listed, listPages, listRecords, pagePlaces, recordPlaces}
 use Rattle.pages.specs.Layout.{pageOf, fillOf, recordOf}
 use Rattle.pages.specs.declared.KeyWords.{KeyWords}
-use Rattle.image.specs.Read.{recordRegion}
 use Rattle.image.specs.Decode.{keysFrom}
-use Rattle.holding.specs.Held.{Chain, KeyHeld, KeysHeld, kidPlaces, EveryKid, placeOf, LeafHeld, PageHeld, Held}
+use Rattle.holding.specs.Held.{KeyHeld, KeysHeld, EveryKid, LeafHeld, PageHeld, Held, keyRecords}
 use Rattle.holding.proofs.Chains.{chain-frame, regions-frame}
 
 abbrev pub SamePage : List ℕ → List ℕ → ℕ → Type 0
@@ -32,10 +30,6 @@ key-frame w w′ x k a h =
 
 -- the places of the keys' records of a page, without its children's
 module _ {A : Type 0} where
-  abbrev pub keyRecords : List (A × Key) → List ℕ
-  keyRecords [] = []
-  keyRecords (c ∷ cs) = c .1 .places ++ keyRecords cs
-
   pub keys-frame : (w w′ : List ℕ) (xs : List KeyWords) (cs : List (A × Key)) → All (SameRecord w w′) (keyRecords cs) → KeysHeld w xs cs → KeysHeld w′ xs cs
   keys-frame w w′ [] [] a h = tt
   keys-frame w w′ [] (c ∷ cs) a h = absurd h

@@ -1,20 +1,20 @@
 -- A part of a tree in its place: what holds there, and that another part at the same place makes the whole tree held again.
 -- Assumes nothing.
-use Prim.Native.Nat.{ℕ, zero, suc, _+_, _≤_, _<_}
-use mathlib.Core.Path.{_≡_, refl, sym, ap, ap₂, _∙_, subst}
-use mathlib.Core.List.{List, [], _∷_, _++_, map}
+use Prim.Native.Nat.{ℕ, zero, suc}
+use mathlib.Core.Path.{_≡_, refl, sym, ap, _∙_}
+use mathlib.Core.List.{List, [], _∷_}
 use lib.ListN.{length, length-append}
 use Rattle.words.specs.Lists.{All}
 use Rattle.words.proofs.Listed.{all-left, all-right, all-append}
-use Rattle.xrtree.specs.Tree.{Entry, Key, Leaf, Inner, Tree, weave, listed, listPages, listRecords, pagePlaces, recordPlaces}
-use Rattle.xrtree.proofs.Claims.{pageAt}
-use Rattle.xrtree.proofs.Whole.{Post, fillKids, fillLast, fill, up, Ctx, plug, before, after, beforeKids, afterKids}
-use Rattle.xrtree.proofs.Whole.Post.{atKey, atEnd}
-use Rattle.pages.specs.Layout.{pageOf, fillOf, recordOf}
+use Rattle.xrtree.specs.Tree.{Key, Tree, weave, listed, listPages, listRecords}
+use Rattle.xrtree.specs.Holes.{Post, fillKids, fillLast, fill, up, Ctx, plug}
+use Rattle.xrtree.proofs.Whole.{before, after, beforeKids, afterKids}
+use Rattle.xrtree.specs.Holes.Post.{atKey, atEnd}
+use Rattle.pages.specs.Layout.{fillOf}
 use Rattle.image.specs.Decode.{keysFrom}
 use Rattle.pages.specs.declared.KeyWords.{KeyWords}
-use Rattle.holding.specs.Held.{KeyHeld, KeysHeld, kidPlaces, EveryKid, placeOf, LeafHeld, PageHeld, Held}
-use Rattle.holding.proofs.Frames.{SamePage, SameRecord, keyRecords, own-records, page-frame, held-frame}
+use Rattle.holding.specs.Held.{KeysHeld, kidPlaces, EveryKid, placeOf, PageHeld, Held, keyRecords}
+use Rattle.holding.proofs.Frames.{SamePage, SameRecord, own-records, page-frame, held-frame}
 
 -- the place of a whole tree around a hole is that of its top page, or the hole's own
 pub place-plug : (d m : ℕ) (c : Ctx d m) (t t′ : Tree m) → placeOf m t′ ≡ placeOf m t → placeOf (up d m) (plug d m c t′) ≡ placeOf (up d m) (plug d m c t)
@@ -43,12 +43,6 @@ module _ {A : Type 0} where
   long-refill : (pre : List (A × Key)) (post : Post A) (u u′ : A) → length (fillKids pre post u) ≡ length (fillKids pre post u′)
   long-refill pre (atKey k cs last) u u′ = length-append pre ((u, k) ∷ cs) ∙ sym (length-append pre ((u′, k) ∷ cs))
   long-refill pre atEnd u u′ = refl
-
-  records-refill : (pre : List (A × Key)) (post : Post A) (u u′ : A) → keyRecords (fillKids pre post u) ≡ keyRecords (fillKids pre post u′)
-  records-refill [] (atKey k cs last) u u′ = refl
-  records-refill [] atEnd u u′ = refl
-  records-refill (c ∷ pre) (atKey k cs last) u u′ = ap (λ l. c .1 .places ++ l) (records-refill pre (atKey k cs last) u u′)
-  records-refill (c ∷ pre) atEnd u u′ = ap (λ l. c .1 .places ++ l) (records-refill pre atEnd u u′)
 
   pub every-hole : (P : A → Type 0) (pre : List (A × Key)) (post : Post A) (u : A) → EveryKid P (fillKids pre post u) (fillLast post u) → P u
   every-hole P [] (atKey k cs last) u g = g .0

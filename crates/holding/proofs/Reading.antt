@@ -2,19 +2,16 @@
 -- Assumes nothing.
 use Prim.Native.Nat.{ℕ, zero, suc, _+_, _≤_, _<_}
 use mathlib.Core.Path.{_≡_, refl, sym, ap, ap₂, _∙_, subst}
-use mathlib.Core.List.{List, [], _∷_, _++_, map, head-eq-of-cons-eq, tail-eq-of-cons-eq}
+use mathlib.Core.List.{List, [], _∷_, map, head-eq-of-cons-eq, tail-eq-of-cons-eq}
 use lib.ListN.{length, getD}
 use native.Mathlib.Omega.{arith}
 use Rattle.words.specs.Lists.{All}
-use Rattle.words.proofs.Listed.{all-left, all-right, all-append}
-use Rattle.regions.specs.declared.Region.{Region}
-use Rattle.xrtree.specs.Tree.{Entry, Key, Leaf, Inner, Tree, weave, listed, listPages, listRecords, pagePlaces, recordPlaces}
-use Rattle.pages.specs.Layout.{pageOf, fillOf, nextOf, childIn, keyWord, recordOf}
-use Rattle.pages.specs.declared.KeyWords.{KeyWords}
-use Rattle.image.specs.Read.{entriesFrom, chain, listPlaces, recordRegion, keyAt, kidsFrom, readTree}
+use Rattle.xrtree.specs.Tree.{Key, Tree}
+use Rattle.pages.specs.Layout.{pageOf, fillOf, childIn, keyWord}
+use Rattle.image.specs.Read.{chain, recordRegion, keyAt, kidsFrom, readTree}
 use Rattle.image.specs.Decode.{keyWordsAt, keysFrom, childrenFrom}
 use Rattle.image.proofs.Listings.{kids-long}
-use Rattle.holding.specs.Held.{Chain, KeyHeld, KeysHeld, kidPlaces, EveryKid, placeOf, LeafHeld, PageHeld, Held}
+use Rattle.holding.specs.Held.{KeyHeld, KeysHeld, kidPlaces, EveryKid, placeOf, Held}
 use Rattle.holding.proofs.Chains.{chain-read, read-chain}
 
 -- a key whose list ends is held as it is read

@@ -1,12 +1,11 @@
 -- The words of an image hold a tree of plain values: each page where the tree says it is, each key with its stored pair and its list.
 -- Assumes nothing.
-use Prim.Native.Nat.{ℕ, zero, suc, _+_, _≤_}
+use Prim.Native.Nat.{ℕ, zero, suc, _≤_}
 use mathlib.Core.Path.{_≡_}
 use mathlib.Core.List.{List, [], _∷_, _++_, map}
 use lib.ListN.{length}
-use Rattle.regions.specs.declared.Region.{Region}
-use Rattle.xrtree.specs.Tree.{Entry, Key, Leaf, Inner, Tree}
-use Rattle.pages.specs.Layout.{pageOf, fillOf, nextOf, recordOf, recordNext}
+use Rattle.xrtree.specs.Tree.{Key, Leaf, Inner, Tree}
+use Rattle.pages.specs.Layout.{pageOf, fillOf, nextOf, recordOf, recordNext, recordCount}
 use Rattle.pages.specs.declared.KeyWords.{KeyWords}
 use Rattle.image.specs.Read.{entriesFrom, recordRegion}
 use Rattle.image.specs.Decode.{keysFrom, childrenFrom}
@@ -14,7 +13,7 @@ use Rattle.image.specs.Decode.{keysFrom, childrenFrom}
 -- a list in the words: its records' places from place q on, each within 1 to 500, 0 behind the last
 pub data Chain (w : List ℕ) : ℕ → List ℕ → Type 0 where
   done : Chain w 0 []
-  link : {q : ℕ} {ps : List ℕ} → 1 ≤ q → q ≤ 500 → Chain w (recordNext (recordOf w q)) ps → Chain w q (q ∷ ps)
+  link : {q : ℕ} {ps : List ℕ} → 1 ≤ q → q ≤ recordCount → Chain w (recordNext (recordOf w q)) ps → Chain w q (q ∷ ps)
 
 -- four words that say a key
 pub record KeyHeld (w : List ℕ) (words : KeyWords) (k : Key) : Type 0 where
@@ -59,3 +58,9 @@ pub record PageHeld (w ws : List ℕ) (h : ℕ) (t : Inner (Tree h)) : Type 0 wh
 abbrev pub Held : List ℕ → (h : ℕ) → Tree h → Type 0
 Held w zero t = LeafHeld (pageOf w (t .place)) t
 Held w (suc h) t = PageHeld w (pageOf w (t .place)) h t × EveryKid (Held w h) (t .kids) (t .last)
+
+-- the places of the keys' records of a page, without its children's
+module _ {A : Type 0} where
+  abbrev pub keyRecords : List (A × Key) → List ℕ
+  keyRecords [] = []
+  keyRecords (c ∷ cs) = c .1 .places ++ keyRecords cs

@@ -2,7 +2,6 @@
 -- Assumes nothing.
 use Prim.Native.Nat.{ℕ, _≤_}
 use mathlib.Core.Path.{_≡_}
-use mathlib.Core.Bool.{Bool, _&&_}
 use mathlib.Core.List.{List}
 use lib.Dec.{T, leb, eqb, leb→le, le→leb, eqb→eq}
 use lib.ListN.{length}
@@ -10,8 +9,8 @@ use Rattle.words.specs.Lists.{all, allPairs, sum}
 use Rattle.words.proofs.Tests.{T-of, and-left, and-right, and-both, eq-yes}
 use Rattle.regions.specs.Positions.{wellFormed, nested}
 use Rattle.xrtree.specs.Tree.{regions, leaves, pagePlaces, recordPlaces}
-use Rattle.xrtree.specs.Rules.{within, filled, linked, startsFirst, rule1, rule2, rule3, rule4, rule5, rule6, sharesKept, placed}
-use Rattle.pages.specs.Layout.{heightOf, sharesOf, pageUsed, recordUsed}
+use Rattle.xrtree.specs.Rules.{filled, linked, startsFirst, rule1, rule2, rule3, rule4, rule5, rule6, sharesKept, placed}
+use Rattle.pages.specs.Layout.{heightOf, pageUsed, recordUsed}
 use Rattle.image.specs.Read.{depthOf, treeOf, setOf}
 use Rattle.image.specs.Valid.{sized, rule7, treeRules, valid}
 

@@ -1,18 +1,18 @@
 -- From rule 1's fills to those that the readers of pages ask for.
 -- Assumes nothing.
-use Prim.Native.Nat.{ℕ, zero, suc, _+_, _-_, _≤_, _<_}
-use mathlib.Core.Path.{_≡_, refl, sym, ap, _∙_, subst}
-use mathlib.Core.Bool.{Bool, true, false, _&&_}
-use mathlib.Core.List.{List, [], _∷_}
+use Prim.Native.Nat.{ℕ, zero, suc, _+_, _≤_}
+use mathlib.Core.Path.{_≡_}
+use mathlib.Core.Bool.{Bool, _&&_}
+use mathlib.Core.List.{List}
 use lib.Dec.{T, leb, leb→le}
 use lib.ListN.{length}
 use native.Mathlib.Omega.{arith}
 use Rattle.words.proofs.Tests.{and-left, and-right}
-use Rattle.xrtree.specs.Tree.{Key, Tree, allKids}
+use Rattle.xrtree.specs.Tree.{Tree, allKids}
 use Rattle.xrtree.specs.Rules.{within, filledBelow, filled, rule1}
 use Rattle.pages.specs.Layout.{pageOf, fillOf, childIn, rootOf}
-use Rattle.image.specs.Read.{entriesFrom, kidsFrom, readTree, depthOf, treeOf}
-use Rattle.image.specs.Fills.{FillsFrom, Fills, rootLeast}
+use Rattle.image.specs.Read.{kidsFrom, readTree, depthOf, treeOf}
+use Rattle.image.specs.Fills.{FillsFrom, Fills}
 use Rattle.image.specs.Shape.{shapely}
 use Rattle.image.specs.Valid.{sized, valid, treeRules}
 use Rattle.image.proofs.Listings.{entries-long, kids-long}

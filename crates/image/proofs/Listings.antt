@@ -1,13 +1,13 @@
 -- What is listed of the tree that an image holds, page by page: one equation for a leaf, one for an inner page, and the rest of a page from some child on.
 -- Assumes nothing.
-use Prim.Native.Nat.{ℕ, zero, suc, _+_, _-_, _*_, _<_, _≤_}
-use mathlib.Core.Path.{_≡_, refl, sym, ap, ap₂, _∙_}
-use mathlib.Core.List.{List, [], _∷_, _++_, map}
-use lib.ListN.{length, getD}
+use Prim.Native.Nat.{ℕ, zero, suc, _+_}
+use mathlib.Core.Path.{_≡_, refl, ap, ap₂}
+use mathlib.Core.List.{List, _++_}
+use lib.ListN.{length}
 use native.Mathlib.Omega.{arith}
-use Rattle.xrtree.specs.Tree.{Entry, Key, Leaf, Inner, Tree, Listing, weave, listed}
+use Rattle.xrtree.specs.Tree.{Leaf, Listing, weave, listed}
 use Rattle.pages.specs.Layout.{pageOf, fillOf, nextOf, childIn}
-use Rattle.image.specs.Read.{entryAt, entriesFrom, keyAt, kidsFrom, readTree}
+use Rattle.image.specs.Read.{entriesFrom, keyAt, kidsFrom, readTree}
 
 -- m entries or keys were asked for, so there are m
 pub entries-long : (ws : List ℕ) (i m : ℕ) → length (entriesFrom ws i m) ≡ m

@@ -1,18 +1,18 @@
 -- What is read from 32-bit words is below 2^32: keys and ends of the tree that an image holds.
 -- Assumes nothing.
-use Prim.Native.Nat.{ℕ, zero, suc, _+_, _-_, _*_, _<_, _≤_}
-use mathlib.Core.Path.{_≡_, refl, sym, ap, ap₂, _∙_, subst}
-use mathlib.Core.List.{List, [], _∷_, _++_, map}
+use Prim.Native.Nat.{ℕ, zero, suc, _+_, _*_, _<_, _≤_}
+use mathlib.Core.Path.{sym, subst}
+use mathlib.Core.List.{List, map}
 use lib.ListN.{length, getD, take, drop, length-take, List·getD-eq-default}
 use native.Mathlib.Omega.{arith}
 use native.Mathlib.Decide.{decLt}
 use Rattle.words.specs.Lists.{All}
 use Rattle.words.proofs.Listed.{all-append}
 use Rattle.regions.specs.declared.Region.{Region}
-use Rattle.xrtree.specs.Tree.{Entry, Key, Leaf, Listing, listKeys, listRegions, regions, keysOf, regionOf}
+use Rattle.xrtree.specs.Tree.{Listing, listKeys, listRegions, regions, keysOf, regionOf}
 use Rattle.pages.specs.Layout.{pageOf, fillOf, childIn, keyWord, entryWord, regionIn}
 use Rattle.pages.proofs.Placed.{page-word-at}
-use Rattle.image.specs.Read.{entryAt, entriesFrom, keyAt, readTree}
+use Rattle.image.specs.Read.{entriesFrom, keyAt, readTree}
 use Rattle.image.proofs.Listings.{leafAt, listedAt, listedFrom, from-last, from-more, listed-leaf, listed-inner}
 
 -- what every leaf, page and key lists, the whole tree lists

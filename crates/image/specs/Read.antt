@@ -1,13 +1,13 @@
 -- What an image holds: the tree, by following places and working none of them out; the set that it means.
 -- Assumes nothing.
-use Prim.Native.Nat.{ℕ, zero, suc, _+_, _-_, _*_}
-use mathlib.Core.Bool.{Bool, true, false, cond}
-use mathlib.Core.List.{List, [], _∷_, _++_, map}
+use Prim.Native.Nat.{ℕ, zero, suc, _+_, _-_}
+use mathlib.Core.Bool.{cond}
+use mathlib.Core.List.{List, [], _∷_, map}
 use lib.Dec.{eqb}
 use lib.ListN.{getD}
 use Rattle.regions.specs.Sets.{Set}
 use Rattle.regions.specs.declared.Region.{Region}
-use Rattle.xrtree.specs.Tree.{Entry, Key, Leaf, Inner, Tree, regions}
+use Rattle.xrtree.specs.Tree.{Entry, Key, Tree, regions}
 use Rattle.pages.specs.Layout.{rootOf, heightOf, sharesOf, pageOf, fillOf, nextOf, regionIn, entryWord, flagIn, keyWord, childIn, recordOf, recordNext}
 
 -- a leaf's entries: m of them, from entry i on

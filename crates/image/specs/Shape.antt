@@ -1,9 +1,9 @@
 -- The three parts in which an image is tested: its shape, its regions, its lists; each may lean on the ones before.
 -- Assumes nothing.
 use Prim.Native.Nat.{ℕ}
-use mathlib.Core.Bool.{Bool, true, false, _&&_}
+use mathlib.Core.Bool.{Bool, _&&_}
 use mathlib.Core.List.{List}
-use Rattle.xrtree.specs.Tree.{Tree, pagePlaces, recordPlaces}
+use Rattle.xrtree.specs.Tree.{pagePlaces, recordPlaces}
 use Rattle.xrtree.specs.Rules.{rule1, rule2, rule3, rule4, rule5, rule6, placed}
 use Rattle.pages.specs.Layout.{pageCount, recordCount, pageUsed, recordUsed}
 use Rattle.image.specs.Read.{depthOf, treeOf, setOf}

@@ -1,9 +1,9 @@
 -- Document 01, "A valid image": the seven rules, and that an image has them.
 -- Assumes nothing.
 use Prim.Native.Nat.{ℕ}
-use mathlib.Core.Bool.{Bool, true, false, _&&_}
+use mathlib.Core.Bool.{Bool, _&&_}
 use mathlib.Core.List.{List}
-use lib.Dec.{leb, eqb}
+use lib.Dec.{eqb}
 use lib.ListN.{length}
 use Rattle.xrtree.specs.Tree.{Tree, pagePlaces, recordPlaces}
 use Rattle.xrtree.specs.Rules.{within, rule1, rule2, rule3, rule4, rule5, rule6, placed}

@@ -2,7 +2,7 @@
 -- Assumes nothing.
 use Prim.Native.Nat.{ℕ, _<_, _≤_}
 use mathlib.Core.Path.{_≡_, refl, sym, ap, _∙_}
-use mathlib.Core.Bool.{Bool, true, false, _&&_, cond}
+use mathlib.Core.Bool.{Bool, true, false, _&&_}
 use mathlib.Core.List.{List, [], _∷_}
 use lib.ListN.{length}
 use native.Mathlib.Omega.{arith}
@@ -10,7 +10,8 @@ use Rattle.words.specs.Lists.{firstNo}
 use Rattle.words.proofs.Tests.{eq-no, lt-yes, lt-no}
 use Rattle.regions.specs.Numbers.{imageFirst}
 use Rattle.regions.specs.Positions.{wellBound}
-use Rattle.regions.specs.Calls.{regionWidth, regionWords, written, countWritten, moreRemain, foreign, pointNo, boundsNo, ancestors, parent, pairWidth, pairWords, joinNo, joined}
+use Rattle.regions.specs.Limits.{regionWidth, pairWidth}
+use Rattle.regions.specs.Calls.{regionWords, written, countWritten, moreRemain, foreign, pointNo, boundsNo, ancestors, parent, pairWords, joinNo, joined}
 use Rattle.regions.specs.declared.Region.{Region}
 use Rattle.regions.specs.Desk.{past}
 use Rattle.regions.specs.declared.Kind.{Kind}
@@ -24,7 +25,6 @@ use Rattle.search.specs.declared.Found.the-variants.{Nothing as NotFound, At as
 use Rattle.join.specs.Joins.{Joined}
 use Rattle.index.specs.Joins.{JoinsSets}
 use Rattle.index.specs.Searches.{stepCount, FindsAncestors, parentNumber, parentFound, isRefusal, FindsParent, Lists}
-use Rattle.index.specs.declared.Parent.{Parent}
 use Rattle.index.specs.declared.Parent.the-variants.{Refused, Nothing, At}
 
 -- IMAGE comes before all else, and only where the image is not valid

@@ -1,8 +1,7 @@
 -- Save and delete: refused with the image as it was, or done with a valid image of the new set.
 -- Assumes nothing.
 use Prim.Native.Nat.{ℕ}
-use mathlib.Core.Path.{_≡_, refl, sym, _∙_}
-use mathlib.Core.Bool.{Bool, true, false}
+use mathlib.Core.Path.{_≡_, refl}
 use mathlib.Core.List.{List}
 use lib.Dec.{T}
 use Rattle.words.proofs.Tests.{of-T}

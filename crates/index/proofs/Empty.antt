@@ -3,20 +3,20 @@
 use Prim.Native.Nat.{ℕ, zero, suc, _+_, _-_, _*_, _<_, _≤_}
 use mathlib.Core.Path.{_≡_, refl, sym, ap, ap₂, _∙_, subst}
 use mathlib.Core.Logic.{_≢_}
-use mathlib.Core.Bool.{Bool, true, false, not, _&&_, cond}
+use mathlib.Core.Bool.{Bool, true, false, not, cond}
 use mathlib.Core.List.{List, [], _∷_, _++_}
-use lib.Dec.{T, leb, ltb, eqb}
-use lib.ListN.{length, getD, set, take, drop, replicate, length-replicate, length-set, length-append, getD-replicate, List·getD-eq-default}
+use lib.Dec.{ltb, eqb}
+use lib.ListN.{length, getD, replicate, length-replicate, length-set, length-append, getD-replicate, List·getD-eq-default}
 use lib.Seq.{getD-set-same, getD-set-other, getD-append-add, take-set-le, take-at}
 use native.Mathlib.Omega.{arith}
-use native.Mathlib.Decide.{decLt, ℕ-discrete}
+use native.Mathlib.Decide.{decLt}
 use Rattle.words.specs.Lists.{filter, all, allPairs, count, sum, firstNo}
-use Rattle.words.proofs.Tests.{T-of, of-T, by-test, eq-yes, eq-no, eq-of, ne-of, lt-yes, lt-no, le-yes, le-of, nlt-of}
-use Rattle.regions.specs.Sets.{Set, emptySet, heldBy, shareOf}
+use Rattle.words.proofs.Tests.{by-test, eq-yes, eq-no, eq-of, ne-of, le-yes, nlt-of}
+use Rattle.regions.specs.Sets.{emptySet}
 use Rattle.regions.specs.Calls.{openSetNo}
-use Rattle.xrtree.specs.Tree.{Leaf, Tree, weave, listed, regions, pagePlaces, recordPlaces}
-use Rattle.xrtree.specs.Rules.{within, filled, linked, firstPlace, rule1, rule2, rule3, rule4, rule5, rule6, pageLists, flagged, sharesKept, onceOrFree, placed}
-use Rattle.pages.specs.Layout.{imageWords, rootOf, heightOf, sharesOf, pageOf, markOf, fillOf, nextOf, recordOf, recordEnd, pageUsed, recordUsed, pageCount, recordCount}
+use Rattle.xrtree.specs.Tree.{Leaf, Tree, listed, regions}
+use Rattle.xrtree.specs.Rules.{filled, linked, firstPlace, rule1, rule2, rule3, rule4, rule5, rule6, pageLists, flagged, sharesKept, onceOrFree, placed}
+use Rattle.pages.specs.Layout.{rootOf, heightOf, sharesOf, pageOf, markOf, fillOf, nextOf, recordOf, recordEnd, pageUsed, recordUsed}
 use Rattle.pages.proofs.Placed.{page-word-at, record-word-at}
 use Rattle.image.specs.Read.{entriesFrom, readTree, depthOf, treeOf, setOf}
 use Rattle.image.specs.Valid.{sized, rule7, treeRules, valid}

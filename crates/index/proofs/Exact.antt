@@ -16,7 +16,8 @@ use Rattle.regions.specs.Numbers.{imageFirst}
 use Rattle.regions.specs.declared.Region.{Region}
 use Rattle.regions.specs.Positions.{contains, holds, inside, isAbove, isBelow}
 use Rattle.regions.specs.Sets.{Set, startsBehind}
-use Rattle.regions.specs.Calls.{regionWidth, regionWords, written, countWritten, moreRemain, pointNo, boundsNo, ancestors, parent, descendants, children}
+use Rattle.regions.specs.Limits.{regionWidth}
+use Rattle.regions.specs.Calls.{regionWords, written, countWritten, moreRemain, pointNo, boundsNo, ancestors, parent, descendants, children}
 use Rattle.regions.specs.Sound.{Rising, Nesting}
 use Rattle.regions.proofs.Extra.{true-so, so-true}
 use Rattle.regions.proofs.Means.{holds-says, inside-says, above-says, below-says, behind-says, contains-says}

@@ -1,11 +1,10 @@
 -- Each promise has one result: any two results that it allows are equal.
 -- Assumes nothing.
 use Prim.Native.Nat.{ℕ}
-use mathlib.Core.Path.{_≡_, refl, sym, ap, ap₂, _∙_}
-use mathlib.Core.Bool.{Bool, true, false, not, true≢false}
-use mathlib.Core.List.{List, [], _∷_, head-eq-of-cons-eq}
+use mathlib.Core.Path.{_≡_, refl, sym, ap, _∙_}
+use mathlib.Core.Bool.{Bool, not, true≢false}
+use mathlib.Core.List.{List, head-eq-of-cons-eq}
 use lib.Dec.{eqb}
-use native.Mathlib.Omega.{arith}
 use Rattle.words.specs.Lists.{some}
 use Rattle.words.proofs.Tests.{by-test, eq-of, ne-of}
 use Rattle.regions.specs.declared.Region.{Region}

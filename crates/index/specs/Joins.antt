@@ -2,11 +2,12 @@
 -- Assumes nothing.
 use Prim.Native.Nat.{ℕ}
 use mathlib.Core.Path.{_≡_}
-use mathlib.Core.Bool.{Bool, _&&_}
+use mathlib.Core.Bool.{_&&_}
 use mathlib.Core.List.{List}
 use lib.ListN.{length}
 use Rattle.regions.specs.Numbers.{imageFirst}
-use Rattle.regions.specs.Calls.{pairWidth, pairWords, written, joinNo, joined}
+use Rattle.regions.specs.Limits.{pairWidth}
+use Rattle.regions.specs.Calls.{pairWords, written, joinNo, joined}
 use Rattle.regions.specs.declared.Kind.{Kind}
 use Rattle.image.specs.Read.{setOf}
 use Rattle.image.specs.Valid.{valid}

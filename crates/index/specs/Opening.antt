@@ -2,16 +2,16 @@
 -- Assumes nothing.
 use Prim.Native.Nat.{ℕ}
 use mathlib.Core.Path.{_≡_}
-use mathlib.Core.List.{List, [], _∷_, _++_}
+use mathlib.Core.List.{List, _∷_, _++_}
 use lib.Dec.{eqb}
 use lib.ListN.{length, set, replicate}
 use Rattle.regions.specs.Numbers.{imageFirst}
 use Rattle.regions.specs.Calls.{openSetNo}
-use Rattle.pages.specs.Layout.{imageWords}
+use Rattle.pages.specs.Layout.{imageWords, pageWidth}
 
 -- the words of a set just opened: root 1, height 1, the sixteen shares; then all are 0, but that page 1, an empty leaf, is in use
 unfoldable pub openedImage : List ℕ → List ℕ
-openedImage shares = set (1 ∷ 1 ∷ (shares ++ replicate 12270 0)) 57 1
+openedImage shares = set (1 ∷ 1 ∷ (shares ++ replicate 12270 0)) pageWidth 1
 
 -- IMAGE comes first, at opening by the length only; then the true sum of the shares
 unfoldable pub openNo : List ℕ → List ℕ → ℕ

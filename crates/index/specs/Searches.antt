@@ -7,7 +7,8 @@ use mathlib.Core.List.{List, [], _∷_}
 use lib.Dec.{eqb}
 use lib.ListN.{length}
 use Rattle.regions.specs.Numbers.{imageFirst}
-use Rattle.regions.specs.Calls.{regionWidth, regionWords, written, countWritten, moreRemain, pointNo, boundsNo, ancestors, parent, descendants, children}
+use Rattle.regions.specs.Limits.{regionWidth}
+use Rattle.regions.specs.Calls.{regionWords, written, countWritten, moreRemain, pointNo, boundsNo, ancestors, parent, descendants, children}
 use Rattle.regions.specs.declared.Region.{Region}
 use Rattle.xrtree.specs.Search.{steps}
 use Rattle.image.specs.Read.{depthOf, treeOf, setOf}

@@ -5,6 +5,7 @@ ghost use lib.ListN.{length, set, replicate};
 ghost use lib.Seq.{sets};
 ghost use lib.Dec.{leb};
 ghost use Rattle.words.specs.Lists.{sum};
+ghost use Rattle.regions.specs.Limits.{mostRegions};
 ghost use Rattle.regions.specs.Numbers.{imageFirst};
 ghost use Rattle.regions.specs.Calls.{boundsNo};
 ghost use Rattle.image.specs.Valid.{valid};
@@ -45,10 +46,10 @@ pub enum Parent {
 }
 
 // Whether sixteen shares sum to at most 500. No sum is made that could pass 500, so none can wrap.
-fn shares_fit(shares: [u32; 16]) -> bool
-    ensures { λ r. ⌜ r ≡ leb (sum shares) 500 ⌝ }
+fn shares_fit(shares: [u32; regions::ACCOUNT_COUNT]) -> bool
+    ensures { λ r. ⌜ r ≡ leb (sum shares) mostRegions ⌝ }
 {
-    let mut room: u32 = 500;
+    let mut room: u32 = regions::MOST_REGIONS;
     let mut a: usize = 0;
     while a < 16 {
         let share = shares[a];
@@ -73,7 +74,7 @@ fn clear(img: &mut [u32])
 }
 
 // The sixteen shares, from word 2 on.
-fn put_shares(img: &mut [u32], shares: [u32; 16])
+fn put_shares(img: &mut [u32], shares: [u32; regions::ACCOUNT_COUNT])
     requires { ⌜ 18 ≤ length (now img) ⌝ }
     ensures { λ _. ⌜ now (img .exit) ≡ sets (now (img .entry)) 2 shares ⌝ }
 {
@@ -85,20 +86,20 @@ fn put_shares(img: &mut [u32], shares: [u32; 16])
 }
 
 // Opens a set: all words are written, none is read.
-pub fn open_set(img: &mut [u32], shares: [u32; 16]) -> u32
+pub fn open_set(img: &mut [u32], shares: [u32; regions::ACCOUNT_COUNT]) -> u32
     ensures { λ r. ⌜ OpensSet (now (img .entry)) shares r (now (img .exit)) ⌝ }
 {
-    if img.len() != 12288 {
-        return 1;
+    if img.len() != pages::IMAGE_WORDS {
+        return regions::IMAGE;
     }
     if !shares_fit(shares) {
-        return 8;
+        return regions::SHARES;
     }
     clear(img);
     put_shares(img, shares);
     img[0] = 1;
     img[1] = 1;
-    img[57] = 1;
+    img[pages::PAGE_WIDTH] = 1;
     0
 }
 
@@ -117,7 +118,7 @@ pub fn save(img: &mut [u32], account: u32, r: Region) -> u32
     let report = audit::audit(img);
     let held = report.held;
     if !report.ok {
-        return 1;
+        return regions::IMAGE;
     }
     changes::save(img, account, r, held)
 }
@@ -127,7 +128,7 @@ pub fn delete(img: &mut [u32], account: u32, start: u32) -> u32
     ensures { λ n. ⌜ Deletes (now (img .entry)) account start n (now (img .exit)) ⌝ }
 {
     if !is_valid(img) {
-        return 1;
+        return regions::IMAGE;
     }
     changes::delete(img, account, start)
 }
@@ -138,14 +139,14 @@ pub fn find_ancestors(img: &[u32], account: u32, p: u32, out: &mut [u32]) -> Anc
 {
     if !is_valid(img) {
         return Ancestors {
-            number: 1,
+            number: regions::IMAGE,
             total: 0,
             steps: 0,
         };
     }
     if regions::foreign(account, p) {
         return Ancestors {
-            number: 3,
+            number: regions::ACCOUNT,
             total: 0,
             steps: 0,
         };
@@ -180,13 +181,13 @@ fn bounds_number(img: &[u32], account: u32, start: u32, end: u32) -> u32
     ensures { λ r. ⌜ r ≡ imageFirst (valid (now (img .entry))) (boundsNo account start end) ⌝ }
 {
     if !is_valid(img) {
-        return 1;
+        return regions::IMAGE;
     }
     if !regions::well_bound(start, end) {
-        return 2;
+        return regions::REGION;
     }
     if regions::foreign(account, start) {
-        return 3;
+        return regions::ACCOUNT;
     }
     0
 }
@@ -210,7 +211,7 @@ pub fn find_descendants(
             more: false,
         };
     }
-    let l = inward::descendants(img, start, end, after, out);
+    let l = inside::descendants(img, start, end, after, out);
     Listed {
         number: 0,
         count: l.count,
@@ -238,7 +239,7 @@ pub fn find_children(
             more: false,
         };
     }
-    let l = inward::children(img, start, end, level, after, out);
+    let l = inside::children(img, start, end, level, after, out);
     Listed {
         number: 0,
         count: l.count,
@@ -258,19 +259,19 @@ pub fn join_sets(
 {
     if !is_valid(outer) {
         return JoinedPairs {
-            number: 1,
+            number: regions::IMAGE,
             total: 0,
         };
     }
     if !is_valid(inner) {
         return JoinedPairs {
-            number: 1,
+            number: regions::IMAGE,
             total: 0,
         };
     }
-    if 15 < account {
+    if regions::LAST_ACCOUNT < account {
         return JoinedPairs {
-            number: 3,
+            number: regions::ACCOUNT,
             total: 0,
         };
     }

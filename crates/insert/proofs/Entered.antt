@@ -1,6 +1,6 @@
 -- The whole save: what it has before the entry comes in, what stands behind it, and what the image means in the end.
 -- Assumes nothing.
-use Prim.Native.Nat.{ℕ, zero, suc, _+_, _≤_, _<_}
+use Prim.Native.Nat.{ℕ, zero, suc, _≤_, _<_}
 use mathlib.Core.Path.{_≡_, refl, sym, ap, _∙_, subst}
 use mathlib.Core.List.{List, [], _∷_, _++_}
 use lib.Dec.{T}
@@ -17,10 +17,10 @@ use Rattle.regions.proofs.Done.{save-done}
 use Rattle.regions.proofs.Rising.{free-sides, saved-all}
 use Rattle.xrtree.specs.Tree.{Key, Inner, Tree, regions, pagePlaces, recordPlaces}
 use Rattle.xrtree.specs.Rules.{filledBelow, filled, rule6}
-use Rattle.xrtree.proofs.Claims.{Proper}
+use Rattle.xrtree.specs.Claims.{Proper}
 use Rattle.xrtree.proofs.Rules.{well-long, nested-says, nested-pairs}
-use Rattle.xrtree.proofs.Whole.{Post}
-use Rattle.xrtree.proofs.Whole.Post.{atKey, atEnd}
+use Rattle.xrtree.specs.Holes.{Post}
+use Rattle.xrtree.specs.Holes.Post.{atKey, atEnd}
 use Rattle.pages.specs.Layout.{rootOf, heightOf, sharesOf}
 use Rattle.image.specs.Read.{depthOf, treeOf, setOf}
 use Rattle.image.specs.Valid.{valid}
@@ -33,17 +33,17 @@ use Rattle.standing.proofs.Whole.{valid-stands, set-is, stands-valid}
 use Rattle.steps.specs.Steps.{size, KidsFilled}
 use Rattle.records.specs.Touched.{Room}
 use Rattle.path.specs.Path.{pathOf, padded}
-use Rattle.growth.specs.Ways.{Filled, Behind, Others, Ahead, OnWay, Way, Below}
-use Rattle.growth.proofs.Fills.{kids-every, of-filled, of-root, of-root-leaf, every-fill, hole-but}
-use Rattle.growth.proofs.Pages.{few-pages}
-use Rattle.growth.proofs.Records.{room-whole, whole-few, record-free}
-use Rattle.growth.proofs.Sets.{SetFacts, saved-facts, save-room, facts-few, valid-set}
-use Rattle.owner.specs.Whole.{Whole}
-use Rattle.owner.specs.Ways.{Greater}
-use Rattle.owner.specs.Changed.{SameKids, SamePost, WayStep, Along, OneMore, Entering, Entered}
-use Rattle.owner.proofs.Alongs.{low-same, high-same}
-use Rattle.owner.proofs.Paths.{filled-leaf}
-use Rattle.owner.proofs.Fills.{along-long}
+use Rattle.room.specs.Ways.{Filled, Behind, Others, Ahead, OnWay, Way, Below}
+use Rattle.room.proofs.Fills.{kids-every, of-filled, of-root, of-root-leaf, every-fill, hole-but}
+use Rattle.room.proofs.Pages.{few-pages}
+use Rattle.room.proofs.Records.{room-whole, whole-few, record-free}
+use Rattle.room.proofs.Sets.{SetFacts, saved-facts, save-room, facts-few, valid-set}
+use Rattle.entries.specs.Whole.{Whole}
+use Rattle.entries.specs.Ways.{Greater}
+use Rattle.entries.specs.Changed.{SameKids, SamePost, WayStep, Along, OneMore, Entering, Entered}
+use Rattle.entries.proofs.Alongs.{low-same, high-same}
+use Rattle.entries.proofs.Paths.{filled-leaf}
+use Rattle.entries.proofs.Fills.{along-long}
 use Rattle.insert.specs.Spreads.{Loose, Spreading, Spreads, Topping, Topped}
 use Rattle.insert.proofs.Reading.{whole-path}
 

@@ -1,14 +1,14 @@
 -- What the words say of a tree that they hold: how much a page holds, the rank of x in it, the pages of a path.
 -- Assumes nothing.
-use Prim.Native.Nat.{ℕ, zero, suc, _+_, _-_, _≤_, _<_}
+use Prim.Native.Nat.{ℕ, zero, suc, _+_, _≤_, _<_}
 use mathlib.Core.Path.{_≡_, sym, ap, _∙_, subst}
 use mathlib.Core.List.{List, [], _∷_}
 use lib.ListN.{length, getD}
 use native.Mathlib.Omega.{arith}
 use Rattle.regions.specs.declared.Region.{Region}
 use Rattle.xrtree.specs.Tree.{Key, Tree}
-use Rattle.xrtree.proofs.Whole.{Post, fillKids, fill}
-use Rattle.xrtree.proofs.Whole.Post.{atKey, atEnd}
+use Rattle.xrtree.specs.Holes.{Post, fillKids, fill}
+use Rattle.xrtree.specs.Holes.Post.{atKey, atEnd}
 use Rattle.pages.specs.Layout.{rootOf, pageOf, fillOf, keyWord}
 use Rattle.image.specs.Read.{readTree, depthOf}
 use Rattle.image.specs.Decode.{keysFrom}
@@ -19,8 +19,8 @@ use Rattle.steps.specs.Steps.{size}
 use Rattle.path.specs.Path.{rankFrom, rankIn, childFor, pathFrom, pathOf, downTo, padded}
 use Rattle.path.proofs.Ranks.{rank-none, rank-here, rank-on, kid-rank}
 use Rattle.path.proofs.Ways.{path-read, down-none, down-on}
-use Rattle.growth.specs.Ways.{OnWay}
-use Rattle.owner.specs.Whole.{Whole}
+use Rattle.room.specs.Ways.{OnWay}
+use Rattle.entries.specs.Whole.{Whole}
 use Rattle.insert.specs.Spreads.{OnPath}
 
 -- a page says how many entries or keys it holds

@@ -8,19 +8,19 @@ use lib.ListN.{length, length-append}
 use native.Mathlib.Omega.{arith}
 use Rattle.xrtree.specs.Tree.{Tree, weave, listed, regions, pagePlaces}
 use Rattle.xrtree.specs.Rules.{filled}
-use Rattle.xrtree.proofs.Claims.{pageAt}
-use Rattle.xrtree.proofs.Whole.Post.{atEnd}
+use Rattle.xrtree.specs.Claims.{pageAt}
+use Rattle.xrtree.specs.Holes.Post.{atEnd}
 use Rattle.pages.specs.Layout.{rootOf, heightOf, pageOf, fillOf}
 use Rattle.standing.specs.Stands.{top, nothingAround, Stands}
 use Rattle.steps.specs.Steps.{size, KidsFilled, ChildAt}
-use Rattle.growth.specs.Ways.{PageRoom}
-use Rattle.growth.proofs.Fills.{to-root, to-root-leaf}
-use Rattle.growth.proofs.Pages.{root-narrow}
-use Rattle.growth.proofs.Records.{room-whole, page-free}
-use Rattle.growth.proofs.Becoming.{splitPage}
-use Rattle.growth.proofs.Spreading.{grown-root}
-use Rattle.owner.specs.Whole as owner
-use Rattle.owner.specs.Whole.{Grew}
+use Rattle.room.specs.Ways.{PageRoom}
+use Rattle.room.proofs.Fills.{to-root, to-root-leaf}
+use Rattle.room.proofs.Pages.{root-narrow}
+use Rattle.room.proofs.Records.{room-whole, page-free}
+use Rattle.room.proofs.Becoming.{splitPage}
+use Rattle.room.proofs.Spreading.{grown-root}
+use Rattle.entries.specs.Whole as owner
+use Rattle.entries.specs.Whole.{Grew}
 use Rattle.insert.specs.Spreads.{Settling, Settled, Topping, Topped}
 use Rattle.insert.proofs.Reading.{held-size}
 

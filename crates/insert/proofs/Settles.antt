@@ -7,9 +7,9 @@ use native.Mathlib.Omega.{arith}
 use Rattle.pages.specs.Layout.{pageOf, fillOf}
 use Rattle.holding.specs.Held.{Held}
 use Rattle.steps.specs.Steps.{size, Split}
-use Rattle.growth.proofs.Fills.{every-fill}
-use Rattle.growth.proofs.Records.{idle-long}
-use Rattle.growth.proofs.Becoming.{split-records}
+use Rattle.room.proofs.Fills.{every-fill}
+use Rattle.room.proofs.Records.{idle-long}
+use Rattle.room.proofs.Becoming.{split-records}
 use Rattle.split.specs.Ready.{LeafReady, InnerReady}
 use Rattle.insert.specs.Spreads.{Settling, Settled}
 use Rattle.insert.proofs.Reading.{held-size}

@@ -1,6 +1,6 @@
 -- A turn at a page of the path: down to its child on the way, the child spread below and settled, and the page is spread below.
 -- Assumes nothing.
-use Prim.Native.Nat.{ℕ, zero, suc, _+_, _-_, _≤_, _<_}
+use Prim.Native.Nat.{ℕ, zero, suc, _+_, _≤_, _<_}
 use mathlib.Core.Path.{_≡_, sym, ap, _∙_, subst}
 use mathlib.Core.List.{List}
 use lib.ListN.{length, getD}
@@ -8,20 +8,19 @@ use native.Mathlib.Omega.{arith}
 use native.Mathlib.Decide.{ℕ-discrete}
 use Rattle.regions.specs.declared.Region.{Region}
 use Rattle.xrtree.specs.Tree.{Key, Tree}
-use Rattle.xrtree.proofs.Splice.{loAfter}
-use Rattle.xrtree.proofs.Whole.{Post, fill, hiPost}
-use Rattle.xrtree.proofs.Whole.Post.{atKey, atEnd}
+use Rattle.xrtree.specs.Holes.{loAfter, Post, fill, hiPost}
+use Rattle.xrtree.specs.Holes.Post.{atKey, atEnd}
 use Rattle.pages.specs.Layout.{pageOf, fillOf}
 use Rattle.holding.specs.Held.{placeOf}
 use Rattle.standing.specs.Stands.{Around}
 use Rattle.steps.specs.Steps.{size}
 use Rattle.path.specs.Path.{rankIn}
-use Rattle.growth.specs.Ways.{Filled, Others, Ahead, OnWay, Way, Spread, Grown}
-use Rattle.growth.proofs.Fills.{WayIn, way-in, but-hole, size-fill}
-use Rattle.growth.proofs.Becoming.{becomes-none, beside, stands-child, room-child}
-use Rattle.growth.proofs.Spreading.{grownAt, grown-room, spread-kept, spread-split, room-below}
-use Rattle.owner.specs.Ways.{Greater}
-use Rattle.owner.proofs.Alongs.{kid-fill}
+use Rattle.room.specs.Ways.{Filled, Others, Ahead, OnWay, Way, Spread, Grown}
+use Rattle.room.proofs.Fills.{WayIn, way-in, but-hole, size-fill}
+use Rattle.room.proofs.Becoming.{becomes-none, beside, stands-child, room-child}
+use Rattle.room.proofs.Spreading.{grownAt, grown-room, spread-kept, spread-split, room-below}
+use Rattle.entries.specs.Ways.{Greater}
+use Rattle.entries.proofs.Alongs.{kid-fill}
 use Rattle.insert.specs.Spreads.{Settling, Settled, OnPath, Loose, Spreading, Spreads}
 use Rattle.insert.proofs.Reading.{held-size, rank-is}
 

@@ -6,17 +6,18 @@ use mathlib.Core.List.{List}
 use lib.Dec.{T}
 use lib.ListN.{length, getD}
 use Rattle.words.specs.Lists.{Pairs}
+use Rattle.regions.specs.Limits.{mostRegions}
 use Rattle.regions.specs.declared.Region.{Region}
 use Rattle.xrtree.specs.Tree.{Tree, pagePlaces}
 use Rattle.xrtree.specs.Rules.{filled}
-use Rattle.xrtree.proofs.Claims.{Over}
+use Rattle.xrtree.specs.Claims.{Over}
 use Rattle.pages.specs.Layout.{sharesOf}
 use Rattle.holding.specs.Held.{placeOf}
 use Rattle.standing.specs.Stands.{Around, nothingAround, Stands}
 use Rattle.steps.specs.Steps.{size, KidsFilled, ChildAt, pageHere, Split}
-use Rattle.path.proofs.Ranks.{kidFor}
-use Rattle.growth.specs.Ways.{Below, RecordRoom, PageRoom, Becomes}
-use Rattle.owner.specs.Whole.{Whole}
+use Rattle.path.specs.Path.{kidFor}
+use Rattle.room.specs.Ways.{Below, RecordRoom, PageRoom, Becomes}
+use Rattle.entries.specs.Whole.{Whole}
 
 -- A CHILD IN ITS PAGE, which has room for one key more: where it holds nine, it is split at 4
 pub record Settling (w : List ℕ) (h q i p low : ℕ) : Type 0 where
@@ -70,7 +71,7 @@ pub record Topping (w : List ℕ) (low : ℕ) : Type 0 where
   pub t : Tree h
   pub whole : Whole w rs h t
   pub nested : Pairs Over rs
-  pub few : length rs ≤ 500
+  pub few : length rs ≤ mostRegions
   pub filled : KidsFilled h t
   pub least : 0 < h → 1 ≤ size h t
   pub most : size h t ≤ 9

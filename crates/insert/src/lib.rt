@@ -50,7 +50,7 @@ fn relieve_root(img: &mut [u32], low: usize)
     if pages::fill(img, p) != 9 {
         return;
     }
-    owner::grow_root(img);
+    entries::grow_root(img);
     let q = path::root(img);
     let path = [q, p, 0, 0];
     settle(img, path, 0, 0, low);
@@ -62,7 +62,7 @@ pub fn insert(img: &mut [u32], r: Region)
     ensures { λ _. ⌜ T (valid (now (img .exit))) × (setOf (now (img .exit)) ≡ saved r (setOf (now (img .entry)))) ⌝ }
 {
     let path = path::descend(img, r.start);
-    owner::put_entry(img, path, r);
+    entries::put_entry(img, path, r);
     let d = path::depth(img);
     spread(img, path, d, 0, r.start);
     relieve_root(img, d);

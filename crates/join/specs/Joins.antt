@@ -7,7 +7,8 @@ use mathlib.Core.List.{List}
 use lib.ListN.{length}
 use Rattle.words.specs.Lists.{filter, All}
 use Rattle.regions.specs.Sets.{of, startsFrom}
-use Rattle.regions.specs.Calls.{Pair, written, countWritten, pairWords, pairWidth}
+use Rattle.regions.specs.Limits.{pairWidth, accountPositions}
+use Rattle.regions.specs.Calls.{Pair, written, countWritten, pairWords}
 use Rattle.regions.specs.declared.Region.{Region}
 use Rattle.regions.specs.declared.Mark.{Mark}
 use Rattle.regions.specs.declared.Mark.the-variants.{Fresh, Last}
@@ -19,7 +20,7 @@ use Rattle.leaves.specs.Faces.{Faces}
 
 -- WHERE IT BEGINS: at the account's first position, or at the marked d where that comes later
 abbrev pub lowest : ℕ → ℕ
-lowest a = a * 268435456
+lowest a = a * accountPositions
 
 unfoldable pub firstPosition : ℕ → Mark → ℕ
 firstPosition a Fresh = lowest a

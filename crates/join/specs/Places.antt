@@ -8,12 +8,12 @@ use Rattle.words.specs.Lists.{filter}
 use Rattle.regions.specs.Sets.{startsBefore, startsFrom}
 use Rattle.image.specs.Read.{setOf}
 use Rattle.leaves.specs.Faces.{Faces}
-use Rattle.stack.specs.Stacks.{holdsUpTo, stacked}
+use Rattle.stack.specs.Stacks.{heldWords, holdsUpTo, stacked}
 use Rattle.join.specs.declared.Stack.{Stack}
 
 -- THE STACK AT A PLACE: all that hold it, and the cursor at the first region that starts no sooner than they must
 pub record Placed (w : List ℕ) (s p : ℕ) (held : List ℕ) (t : Stack) : Type 0 where
-  pub long : length held ≡ 2000
+  pub long : length held ≡ heldWords
   pub stack : stacked held (t .n) ≡ filter (holdsUpTo s p) (setOf w .regions)
   pub faces : Faces w (t .cur) (filter (startsFrom s) (setOf w .regions))
 
@@ -28,7 +28,7 @@ pub record Behind (w : List ℕ) (s p : ℕ) (held : List ℕ) (t : Stack) : Typ
 
 -- on the way to p: of those before the cursor all that hold p
 pub record Coming (w : List ℕ) (s p : ℕ) (held : List ℕ) (t : Stack) : Type 0 where
-  pub long : length held ≡ 2000
+  pub long : length held ≡ heldWords
   pub at : ℕ
   pub far : at ≤ s
   pub stack : stacked held (t .n) ≡ filter (holdsUpTo s p) (filter (startsBefore at) (setOf w .regions))

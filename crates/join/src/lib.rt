@@ -6,6 +6,7 @@ ghost use Prim.Native.Nat.{suc, _<_, _≤_, _/_, min};
 ghost use lib.Dec.{T, ltb};
 ghost use lib.ListN.{length};
 ghost use Rattle.words.specs.Lists.{filter};
+ghost use Rattle.regions.specs.Limits.{lastAccount};
 ghost use Rattle.regions.specs.Sets.{startsFrom};
 ghost use Rattle.regions.specs.Calls.{joined};
 ghost use Rattle.regions.specs.Desk.{past};
@@ -13,6 +14,7 @@ ghost use Rattle.image.specs.Read.{setOf};
 ghost use Rattle.image.specs.Valid.{valid};
 ghost use Rattle.leaves.specs.Cursors.{stepFrom, startFaced};
 ghost use Rattle.leaves.specs.Faces.{Faces};
+ghost use Rattle.stack.specs.Stacks.{heldWords};
 ghost use Rattle.join.specs.Places.{Placed, Behind, Coming};
 ghost use Rattle.join.specs.Joins.{lowest, firstPosition, ownStep, Before, Moved, Joined};
 use leaves::Cursor;
@@ -28,10 +30,10 @@ pub struct Stack {
 
 // Where the pairs of an account past a mark can begin: at its first position, or at the marked d where that comes later.
 fn first_position(account: u32, mark: Mark) -> u32
-    requires { ⌜ account ≤ 15 ⌝ }
+    requires { ⌜ account ≤ lastAccount ⌝ }
     ensures { λ r. ⌜ r ≡ firstPosition account mark ⌝ }
 {
-    let low = account * 268435456;
+    let low = account * regions::ACCOUNT_POSITIONS;
     let Mark::Last(_, d) = mark else {
         return low;
     };
@@ -84,7 +86,7 @@ fn is_over(outer: &[u32], leaf: u32, end: u32, p: u32) -> bool {
 // The stack at p, by one descent: the ancestors along p's path, and the cursor in the leaf where it ends.
 fn refill(outer: &[u32], held: &mut [u32], p: u32) -> Stack
     requires { ⌜ T (valid (now outer)) ⌝ }
-    requires { ⌜ length (now held) ≡ 2000 ⌝ }
+    requires { ⌜ length (now held) ≡ heldWords ⌝ }
     ensures { λ r. ⌜ Placed (now (outer .entry)) p p (now (held .exit)) r ⌝ }
 {
     let way = path::descend(outer, p);
@@ -97,13 +99,13 @@ fn refill(outer: &[u32], held: &mut [u32], p: u32) -> Stack
 // The stack where the pairs begin, at p or before it. No region goes beyond its account, so that none holds the account's first position: there it is empty.
 fn begin(outer: &[u32], held: &mut [u32], account: u32, mark: Mark, p: u32) -> Stack
     requires { ⌜ T (valid (now outer)) ⌝ }
-    requires { ⌜ (account ≤ 15) × (length (now held) ≡ 2000) ⌝ }
+    requires { ⌜ (account ≤ lastAccount) × (length (now held) ≡ heldWords) ⌝ }
     requires { ⌜ lowest account ≤ p ⌝ }
     ensures { λ r. ⌜ Behind (now (outer .entry)) p p (now (held .exit)) r ⌝ }
 {
     match mark {
         Mark::Fresh => {
-            let cur = leaves::seek_from(outer, account * 268435456);
+            let cur = leaves::seek_from(outer, account * regions::ACCOUNT_POSITIONS);
             Stack { n: 0, cur }
         }
         Mark::Last(_, _) => refill(outer, held, p),
@@ -218,14 +220,14 @@ fn pairs_from(
 ) -> usize
     requires { ⌜ T (valid (now outer)) ⌝ }
     requires { ⌜ T (valid (now inner)) ⌝ }
-    requires { ⌜ (account ≤ 15) × (firstPosition account mark < 4294967296) ⌝ }
+    requires { ⌜ (account ≤ lastAccount) × (firstPosition account mark < 4294967296) ⌝ }
     requires { ⌜ Faces (now inner) first (filter (startsFrom (firstPosition account mark)) (setOf (now inner) .regions)) ⌝ }
     requires { ⌜ p ≡ startFaced (stepFrom (now inner) first) ⌝ }
     ensures { λ r. ⌜ Joined (past mark (joined (setOf (now (outer .entry))) (setOf (now (inner .entry))) account kind)) all (now (out .entry)) (now (out .exit)) r ⌝ }
 {
     let room = out.len() / 4;
     let mut cursor = first;
-    let mut held = [0u32; 2000];
+    let mut held = [0u32; stack::HELD_WORDS];
     let mut s = begin(outer, &mut held, account, mark, p);
     let mut total: usize = 0;
     while wants_more(total, room, all) {
@@ -254,7 +256,7 @@ pub fn pairs_past(
 ) -> usize
     requires { ⌜ T (valid (now outer)) ⌝ }
     requires { ⌜ T (valid (now inner)) ⌝ }
-    requires { ⌜ account ≤ 15 ⌝ }
+    requires { ⌜ account ≤ lastAccount ⌝ }
     ensures { λ r. ⌜ Joined (past mark (joined (setOf (now (outer .entry))) (setOf (now (inner .entry))) account kind)) all (now (out .entry)) (now (out .exit)) r ⌝ }
 {
     let first = leaves::seek_from(inner, first_position(account, mark));

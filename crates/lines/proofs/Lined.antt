@@ -24,9 +24,6 @@ pub no-line : (k : ℕ) → isLine k [] ≡ false
 unfolding isLine same line spaced pieces
 no-line k = refl
 
-pub line-numbers : (k : ℕ) (l : List ℕ) → isLine k l ≡ true → (length (numbersOf l) ≡ k) × Small (numbersOf l)
-line-numbers k l h = let m = line-says k l .yes-so (T-of h) in (m .many, m .bounded)
-
 -- a text that begins with a line goes on with the lines behind it
 pub lines-on : (k : ℕ) (rest : List ℕ) → isLine k (firstOf (linesOf rest)) ≡ true
     → (linesOf rest ≡ firstOf (linesOf rest) ∷ linesOf (drop (length (firstOf (linesOf rest))) rest)) × (length (firstOf (linesOf rest)) ≤ length rest)

@@ -1,8 +1,7 @@
 -- The counts of held regions, kept along with the saves.
 -- Assumes nothing.
-use Prim.Native.Nat.{ℕ, zero, suc, _+_, _<_, _≤_}
+use Prim.Native.Nat.{ℕ, zero, suc, _<_, _≤_}
 use mathlib.Core.Path.{_≡_, refl, sym, ap, _∙_}
-use mathlib.Core.Bool.{Bool, true, false, cond}
 use mathlib.Core.List.{List, [], _∷_}
 use lib.Dec.{T, eqb}
 use lib.ListN.{length, getD, set, replicate, getD-replicate, length-set}
@@ -11,7 +10,7 @@ use native.Mathlib.Omega.{arith}
 use Rattle.words.specs.Lists.{filter, sum}
 use Rattle.words.proofs.Tests.{by-test, eq-of, ne-of, le-of, of-T}
 use Rattle.regions.specs.Positions.{account}
-use Rattle.regions.specs.Sets.{Set, of, heldBy, saved}
+use Rattle.regions.specs.Sets.{of, heldBy, saved}
 use Rattle.regions.specs.Calls.{saveNo}
 use Rattle.regions.specs.declared.Region.{Region}
 use Rattle.regions.proofs.Done.{save-done}

@@ -1,14 +1,13 @@
 -- Reading a listing has one result: any two results that its promise allows are equal, of images by what they mean; a refusal fixes every word.
 -- Assumes nothing.
 use Prim.Native.Nat.{ℕ}
-use mathlib.Core.Path.{_≡_, refl, sym, ap, _∙_}
-use mathlib.Core.Bool.{Bool, true, false}
+use mathlib.Core.Path.{_≡_, sym, ap, _∙_}
 use mathlib.Core.List.{List}
 use lib.Dec.{eqb}
 use Rattle.words.proofs.Tests.{by-test, eq-of, ne-of}
 use Rattle.regions.specs.Sets.{Set}
 use Rattle.image.specs.Read.{setOf}
-use Rattle.listing.specs.Form.{Reading, refused, read, listingOf}
+use Rattle.listing.specs.Form.{Reading, refused, read}
 use Rattle.listing.specs.Promise.{ReadsListing}
 
 -- two readings that are equal have read the same

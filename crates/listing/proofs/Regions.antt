@@ -1,18 +1,17 @@
 -- One region line: refused by its form or by the save, or saved and counted.
 -- Assumes nothing.
-use Prim.Native.Nat.{ℕ, suc, _+_, _<_, _≤_}
-use mathlib.Core.Path.{_≡_, refl, sym, ap, subst, _∙_}
+use Prim.Native.Nat.{ℕ, suc, _<_}
+use mathlib.Core.Path.{_≡_, sym, ap, subst, _∙_}
 use mathlib.Core.Bool.{Bool, true, false, cond}
 use mathlib.Core.List.{List}
 use lib.Dec.{T}
-use lib.ListN.{length, getD, set}
+use lib.ListN.{getD, set}
 use native.Mathlib.Omega.{arith}
 use Rattle.regions.specs.Positions.{account}
 use Rattle.regions.specs.Sets.{saved}
 use Rattle.regions.specs.Calls.{saveNo}
 use Rattle.regions.specs.declared.Region.{Region}
 use Rattle.regions.proofs.Done.{save-done}
-use Rattle.lines.specs.Text.{isLine}
 use Rattle.image.specs.Read.{setOf}
 use Rattle.image.specs.Valid.{valid}
 use Rattle.changes.specs.Changed.{SavesIn}

@@ -2,19 +2,18 @@
 -- Assumes nothing.
 use Prim.Native.Nat.{ℕ, suc, _+_, _<_, _≤_}
 use mathlib.Core.Path.{_≡_, refl, sym, ap, subst, _∙_}
-use mathlib.Core.Bool.{Bool, true, false, not, cond, true≢false}
+use mathlib.Core.Bool.{Bool, true, false, true≢false}
 use mathlib.Core.List.{List, [], _∷_}
-use lib.Dec.{ltb, eqb}
-use lib.ListN.{length, getD, take, drop, length-drop}
+use lib.ListN.{length, getD, drop, length-drop}
 use lib.Seq.{getD-take, drop-drop}
 use native.Mathlib.Omega.{arith}
 use Rattle.words.specs.Lists.{firstNo}
 use Rattle.words.proofs.Tests.{lt-yes, lt-no, eq-yes, eq-no}
 use Rattle.regions.specs.declared.Region.{Region}
-use Rattle.lines.specs.Text.{linesOf, firstOf, restOf, numbersOf, isLine}
+use Rattle.lines.specs.Text.{linesOf, restOf, isLine}
 use Rattle.lines.specs.Reads.{ReadsLine}
 use Rattle.lines.proofs.Lined.{lines-on, no-line}
-use Rattle.listing.specs.Form.{numberAt, countNo, Shares, shareNo, regionAt}
+use Rattle.listing.specs.Form.{numberAt, countNo, Shares, shareNo}
 use Rattle.listing.specs.Steps.{lineFrom, Behind, CountRead, ShareRead, RegionRead}
 
 module _ (text : List ℕ) (at : ℕ) where

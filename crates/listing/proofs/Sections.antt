@@ -1,19 +1,17 @@
 -- A section line by line: the first line that is refused ends it, and what is left of it is a section's rest from the next place on.
 -- Assumes nothing.
-use Prim.Native.Nat.{ℕ, zero, suc, _+_, _-_, _<_, _≤_}
-use mathlib.Core.Path.{_≡_, refl, sym, ap, ap₂, _∙_}
-use mathlib.Core.Bool.{Bool, true, false, cond}
-use mathlib.Core.List.{List, [], _∷_}
-use lib.Dec.{T, eqb}
-use lib.ListN.{length, drop, set}
+use Prim.Native.Nat.{ℕ, suc, _+_}
+use mathlib.Core.Path.{_≡_, sym, ap, ap₂, _∙_}
+use mathlib.Core.List.{List}
+use lib.Dec.{T}
+use lib.ListN.{length, set}
 use native.Mathlib.Omega.{arith}
 use native.Mathlib.Numerals.{add-one}
 use Rattle.words.proofs.Tests.{eq-yes, eq-no}
 use Rattle.regions.specs.Numbers.{unless}
-use Rattle.lines.specs.Text.{linesOf, restOf}
 use Rattle.image.specs.Read.{setOf}
 use Rattle.image.specs.Valid.{valid}
-use Rattle.listing.specs.Form.{Reading, refused, read, andThen, Place, lineAt, onward, numberAt, countNo, items, section, Shares, noShares, shareNo, shared, regionNo, savedLine}
+use Rattle.listing.specs.Form.{refused, read, Place, onward, numberAt, countNo, items, section, Shares, noShares, shareNo, shared, regionNo, savedLine}
 use Rattle.listing.specs.Steps.{lineFrom, placeAt, Stands, Behind, heard, SharesRead, RegionsRead}
 
 pub unless-done : {X : Type 0} (n : ℕ) (x y : X) → n ≡ 0 → unless n x y ≡ x

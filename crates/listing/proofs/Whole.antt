@@ -1,10 +1,10 @@
 -- A set and a whole listing from their sections.
 -- Assumes nothing.
-use Prim.Native.Nat.{ℕ, suc, _+_, _-_, _<_, _≤_}
+use Prim.Native.Nat.{ℕ, _-_, _<_, _≤_}
 use mathlib.Core.Path.{_≡_, refl, sym, ap, ap₂, subst, _∙_}
-use mathlib.Core.Bool.{Bool, true, false, _&&_, cond}
+use mathlib.Core.Bool.{true, false, cond}
 use mathlib.Core.List.{List, [], _∷_}
-use lib.Dec.{T, ltb, eqb}
+use lib.Dec.{T, eqb}
 use lib.ListN.{length, drop}
 use native.Mathlib.Omega.{arith}
 use Rattle.words.specs.Lists.{some}
@@ -18,9 +18,9 @@ use Rattle.image.specs.Read.{setOf}
 use Rattle.image.specs.Valid.{valid}
 use Rattle.index.specs.Opening.{openNo, OpensSet}
 use Rattle.index.proofs.Empty.{opens-valid}
-use Rattle.listing.specs.Form.{Reading, refused, read, andThen, Place, section, Shares, regionNo, savedLine, regionsAt, setAt, ended, innerAt, mostBytes, listingOf}
+use Rattle.listing.specs.Form.{Reading, refused, read, andThen, section, Shares, regionNo, savedLine, regionsAt, setAt, ended, innerAt, mostBytes, listingOf}
 use Rattle.listing.specs.Promise.{numberOf, lineOf, lent, ReadsListing}
-use Rattle.listing.specs.Steps.{placeAt, Stands, heard, SharesRead, RegionsRead, SetRead}
+use Rattle.listing.specs.Steps.{placeAt, heard, SharesRead, RegionsRead, SetRead}
 use Rattle.listing.proofs.Sections.{unless-done, unless-not}
 
 -- what was heard, taken further

@@ -2,11 +2,12 @@
 -- A text is its lines; a section is a count and that many lines; a set is a section of shares and one of regions; a listing is two sets and nothing more.
 -- Assumes nothing.
 use Prim.Native.Nat.{ℕ, zero, suc, _-_}
-use mathlib.Core.Bool.{Bool, true, false, not, cond}
+use mathlib.Core.Bool.{not, cond}
 use mathlib.Core.List.{List, [], _∷_}
 use lib.Dec.{ltb, eqb}
 use lib.ListN.{length, getD, set, replicate}
 use Rattle.words.specs.Lists.{some, firstNo}
+use Rattle.regions.specs.Limits.{accountCount, lastAccount, mostRegions}
 use Rattle.regions.specs.Positions.{account}
 use Rattle.regions.specs.Sets.{Set, emptySet, saved}
 use Rattle.regions.specs.Numbers.{unless, ACCOUNT, FORM}
@@ -57,7 +58,7 @@ pub record Shares : Type 0 where
   pub from : ℕ
 
 abbrev pub noShares : Shares
-noShares = record { sixteen = replicate 16 0; from = 0 }
+noShares = record { sixteen = replicate accountCount 0; from = 0 }
 
 -- account and share: its form, which takes in that accounts ascend and no share is 0, before the account's range
 unfoldable pub shareNo : Shares → List ℕ → ℕ
@@ -66,7 +67,7 @@ shareNo s l =
     ((not (isLine 2 l), FORM) ∷
     (ltb (numberAt 0 l) (s .from), FORM) ∷
     (eqb (numberAt 1 l) 0, FORM) ∷
-    (ltb 15 (numberAt 0 l), ACCOUNT) ∷
+    (ltb lastAccount (numberAt 0 l), ACCOUNT) ∷
     [])
 
 unfoldable pub shared : Shares → List ℕ → Shares
@@ -84,10 +85,10 @@ savedLine S l = saved (regionAt l) S
 
 -- A SET: its shares, refused at their section's last line where they sum to more than 500; then its regions
 unfoldable pub regionsAt : Shares × Place → Reading (Set × Place)
-regionsAt t = unless (openSetNo (t .0 .sixteen)) (section regionNo savedLine 500 (emptySet (t .0 .sixteen)) (t .1)) (refused (openSetNo (t .0 .sixteen)) (t .1 .at - 1))
+regionsAt t = unless (openSetNo (t .0 .sixteen)) (section regionNo savedLine mostRegions (emptySet (t .0 .sixteen)) (t .1)) (refused (openSetNo (t .0 .sixteen)) (t .1 .at - 1))
 
 unfoldable pub setAt : Place → Reading (Set × Place)
-setAt p = andThen (section shareNo shared 16 noShares p) regionsAt
+setAt p = andThen (section shareNo shared accountCount noShares p) regionsAt
 
 -- A LISTING: outer, inner, and no line behind them
 unfoldable pub ended : Set → Set × Place → Reading (Set × Set)

@@ -7,7 +7,6 @@ use mathlib.Core.List.{List}
 use lib.Dec.{eqb}
 use lib.ListN.{length}
 use Rattle.regions.specs.Numbers.{imageFirst}
-use Rattle.regions.specs.Sets.{Set}
 use Rattle.pages.specs.Layout.{imageWords}
 use Rattle.image.specs.Read.{setOf}
 use Rattle.image.specs.Valid.{valid}

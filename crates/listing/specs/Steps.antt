@@ -3,11 +3,12 @@
 use Prim.Native.Nat.{ℕ, suc, _<_, _≤_}
 use mathlib.Core.Path.{_≡_}
 use mathlib.Core.Bool.{Bool, true}
-use mathlib.Core.List.{List, []}
+use mathlib.Core.List.{List}
 use lib.Dec.{T}
 use lib.ListN.{length, getD, drop}
+use Rattle.regions.specs.Limits.{accountCount, lastAccount, mostRegions}
 use Rattle.regions.specs.Numbers.{unless}
-use Rattle.regions.specs.Sets.{Set, heldBy}
+use Rattle.regions.specs.Sets.{heldBy}
 use Rattle.regions.specs.declared.Region.{Region}
 use Rattle.lines.specs.Text.{linesOf, firstOf, restOf, isLine}
 use Rattle.image.specs.Read.{setOf}
@@ -40,7 +41,7 @@ pub record CountRead (text : List ℕ) (at most : ℕ) (number count next : ℕ)
 
 pub record ShareRead (text : List ℕ) (at : ℕ) (s : Shares) (number account share next : ℕ) : Type 0 where
   pub number-is : number ≡ shareNo s (lineFrom text at)
-  pub share-is : number ≡ 0 → (account ≡ numberAt 0 (lineFrom text at)) × (share ≡ numberAt 1 (lineFrom text at)) × (account ≤ 15)
+  pub share-is : number ≡ 0 → (account ≡ numberAt 0 (lineFrom text at)) × (share ≡ numberAt 1 (lineFrom text at)) × (account ≤ lastAccount)
   pub goes : number ≡ 0 → Behind text at next
 
 pub record RegionRead (text : List ℕ) (at : ℕ) (ok : Bool) (r : Region) (next : ℕ) : Type 0 where
@@ -50,14 +51,14 @@ pub record RegionRead (text : List ℕ) (at : ℕ) (ok : Bool) (r : Region) (nex
 
 -- the two sections, and a set
 pub record SharesRead (text : List ℕ) (line at : ℕ) (number line′ at′ : ℕ) (s : Shares) : Type 0 where
-  pub is : section shareNo shared 16 noShares (placeAt text line at) ≡ heard number line′ (s, placeAt text line′ at′)
+  pub is : section shareNo shared accountCount noShares (placeAt text line at) ≡ heard number line′ (s, placeAt text line′ at′)
   pub goes : number ≡ 0 → Stands text line′ at′
-  pub sixteen-is : length (s .sixteen) ≡ 16
+  pub sixteen-is : length (s .sixteen) ≡ accountCount
   pub some-line : number ≡ 0 → 1 ≤ line′
 
 -- the held regions of the sixteen accounts are counted
 abbrev pub Counted : List ℕ → List ℕ → Type 0
-Counted held w = (length held ≡ 16) × ((a : ℕ) → a < 16 → getD held a 0 ≡ heldBy a (setOf w))
+Counted held w = (length held ≡ accountCount) × ((a : ℕ) → a < accountCount → getD held a 0 ≡ heldBy a (setOf w))
 
 -- one region line: refused with the image as it was, or saved and counted
 pub record Takes (text : List ℕ) (at : ℕ) (w : List ℕ) (number next : ℕ) (held′ : List ℕ) (w′ : List ℕ) : Type 0 where
@@ -66,7 +67,7 @@ pub record Takes (text : List ℕ) (at : ℕ) (w : List ℕ) (number next : ℕ)
   pub stays-valid : T (valid w′)
 
 pub record RegionsRead (text : List ℕ) (line at : ℕ) (w : List ℕ) (number line′ at′ : ℕ) (w′ : List ℕ) : Type 0 where
-  pub is : section regionNo savedLine 500 (setOf w) (placeAt text line at) ≡ heard number line′ (setOf w′, placeAt text line′ at′)
+  pub is : section regionNo savedLine mostRegions (setOf w) (placeAt text line at) ≡ heard number line′ (setOf w′, placeAt text line′ at′)
   pub goes : number ≡ 0 → Stands text line′ at′
   pub stays-valid : T (valid w′)
 

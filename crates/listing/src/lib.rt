@@ -4,6 +4,8 @@ ghost use mathlib.Core.List.{[]};
 ghost use Prim.Native.Nat.{suc, _<_, _≤_};
 ghost use lib.Dec.{T};
 ghost use lib.ListN.{length, getD, set};
+ghost use Rattle.pages.specs.Layout.{imageWords};
+ghost use Rattle.regions.specs.Limits.{accountCount, mostRegions};
 ghost use Rattle.image.specs.Read.{setOf};
 ghost use Rattle.image.specs.Valid.{valid};
 ghost use Rattle.listing.specs.Form.{Shares};
@@ -49,14 +51,14 @@ fn read_count(text: &[u8], at: usize, most: u32) -> Count
     let ns = l.numbers;
     if !l.ok {
         return Count {
-            number: 12,
+            number: regions::FORM,
             count: 0,
             next: 0,
         };
     }
     if most < ns[0] {
         return Count {
-            number: 12,
+            number: regions::FORM,
             count: 0,
             next: 0,
         };
@@ -95,16 +97,16 @@ fn read_share(text: &[u8], at: usize, from: u32) -> ShareLine
     let l = lines::read_line(text, at, 2);
     let ns = l.numbers;
     if !l.ok {
-        return no_share(12);
+        return no_share(regions::FORM);
     }
     if ns[0] < from {
-        return no_share(12);
+        return no_share(regions::FORM);
     }
     if ns[1] == 0 {
-        return no_share(12);
+        return no_share(regions::FORM);
     }
-    if 15 < ns[0] {
-        return no_share(3);
+    if regions::LAST_ACCOUNT < ns[0] {
+        return no_share(regions::ACCOUNT);
     }
     ShareLine {
         number: 0,
@@ -145,7 +147,7 @@ pub struct Given {
     pub number: u32,
     pub line: usize,
     pub at: usize,
-    pub shares: [u32; 16],
+    pub shares: [u32; regions::ACCOUNT_COUNT],
     pub from: u32,
 }
 
@@ -198,11 +200,11 @@ fn read_shares(text: &[u8], line: usize, at: usize) -> Given
 pub struct Taken {
     pub number: u32,
     pub next: usize,
-    pub held: [u32; 16],
+    pub held: [u32; regions::ACCOUNT_COUNT],
 }
 
-fn counted(held: [u32; 16], account: u32) -> [u32; 16]
-    requires { ⌜ (account < 16) × (getD held account 0 < 500) ⌝ }
+fn counted(held: [u32; regions::ACCOUNT_COUNT], account: u32) -> [u32; regions::ACCOUNT_COUNT]
+    requires { ⌜ (account < accountCount) × (getD held account 0 < mostRegions) ⌝ }
     ensures { λ r. ⌜ r ≡ set held account (suc (getD held account 0)) ⌝ }
 {
     let mut counts = held;
@@ -211,7 +213,7 @@ fn counted(held: [u32; 16], account: u32) -> [u32; 16]
     counts
 }
 
-fn not_taken(number: u32, held: [u32; 16]) -> Taken
+fn not_taken(number: u32, held: [u32; regions::ACCOUNT_COUNT]) -> Taken
     ensures { λ r. ⌜ (r .number ≡ number) × (r .held ≡ held) ⌝ }
 {
     Taken {
@@ -222,14 +224,19 @@ fn not_taken(number: u32, held: [u32; 16]) -> Taken
 }
 
 // Saves the region of a line in its start's account. The image is valid all along, and the counts are kept, so that nothing is tested again.
-fn take_region(text: &[u8], at: usize, img: &mut [u32], held: [u32; 16]) -> Taken
+fn take_region(
+    text: &[u8],
+    at: usize,
+    img: &mut [u32],
+    held: [u32; regions::ACCOUNT_COUNT],
+) -> Taken
     requires { ⌜ at ≤ length (now text) ⌝ }
     requires { ⌜ T (valid (now img)) × Counted held (now img) ⌝ }
     ensures { λ r. ⌜ Takes (now (text .entry)) at (now (img .entry)) (r .number) (r .next) (r .held) (now (img .exit)) ⌝ }
 {
     let l = read_region(text, at);
     if !l.ok {
-        return not_taken(12, held);
+        return not_taken(regions::FORM, held);
     }
     let r = l.region;
     let account = regions::account_of(r.start);
@@ -250,7 +257,7 @@ fn read_regions(text: &[u8], line: usize, at: usize, img: &mut [u32]) -> Stand
     requires { ⌜ T (valid (now img)) × (setOf (now img) .regions ≡ []) ⌝ }
     ensures { λ r. ⌜ RegionsRead (now (text .entry)) line at (now (img .entry)) (r .number) (r .line) (r .at) (now (img .exit)) ⌝ }
 {
-    let c = read_count(text, at, 500);
+    let c = read_count(text, at, regions::MOST_REGIONS);
     if c.number != 0 {
         return refused_at(c.number, line);
     }
@@ -278,7 +285,7 @@ fn read_regions(text: &[u8], line: usize, at: usize, img: &mut [u32]) -> Stand
 // A set: its shares, with which the image is opened, and its regions.
 fn read_set(text: &[u8], line: usize, at: usize, img: &mut [u32]) -> Stand
     requires { ⌜ Stands (now text) line at ⌝ }
-    requires { ⌜ length (now img) ≡ 12288 ⌝ }
+    requires { ⌜ length (now img) ≡ imageWords ⌝ }
     ensures { λ r. ⌜ SetRead (now (text .entry)) line at (r .number) (r .line) (r .at) (now (img .exit)) ⌝ }
 {
     let g = read_shares(text, line, at);
@@ -314,17 +321,17 @@ fn told(number: u32, line: usize) -> Heard
 pub fn read_listing(text: &[u8], outer: &mut [u32], inner: &mut [u32]) -> Heard
     ensures { λ r. ⌜ ReadsListing (now (text .entry)) (now (outer .entry)) (now (inner .entry)) (r .number) (r .line) (now (outer .exit)) (now (inner .exit)) ⌝ }
 {
-    if outer.len() != 12288 {
-        return told(1, 0);
+    if outer.len() != pages::IMAGE_WORDS {
+        return told(regions::IMAGE, 0);
     }
-    if inner.len() != 12288 {
-        return told(1, 0);
+    if inner.len() != pages::IMAGE_WORDS {
+        return told(regions::IMAGE, 0);
     }
     if 65536 < text.len() {
-        return told(12, 0);
+        return told(regions::FORM, 0);
     }
-    let mut first = [0u32; 12288];
-    let mut second = [0u32; 12288];
+    let mut first = [0u32; pages::IMAGE_WORDS];
+    let mut second = [0u32; pages::IMAGE_WORDS];
     let a = read_set(text, 1, 0, &mut first);
     if a.number != 0 {
         return told(a.number, a.line);
@@ -334,7 +341,7 @@ pub fn read_listing(text: &[u8], outer: &mut [u32], inner: &mut [u32]) -> Heard
         return told(b.number, b.line);
     }
     if b.at < text.len() {
-        return told(12, b.line);
+        return told(regions::FORM, b.line);
     }
     copy_words(&first, outer);
     copy_words(&second, inner);

@@ -4,6 +4,7 @@ ghost use mathlib.Core.Path.{_≡_};
 ghost use Prim.Native.Nat.{_≤_};
 ghost use lib.Dec.{T};
 ghost use lib.ListN.{length};
+ghost use Rattle.regions.specs.Limits.{bufferWords, lastAccount};
 ghost use Rattle.image.specs.Valid.{valid};
 use libc::STDIN_FILENO;
 use regions::Mark;
@@ -19,8 +20,8 @@ fn refused(n: u32, line: usize) {
 // One account's pairs, batch after batch until one is empty.
 fn print_batches(outer: &[u32], inner: &[u32], account: u32, pairs: &mut [u32], out: &mut [u8])
     requires { ⌜ T (valid (now outer)) × T (valid (now inner)) ⌝ }
-    requires { ⌜ account ≤ 15 ⌝ }
-    requires { ⌜ (length (now pairs) ≡ 1024) × (length (now out) ≡ 11264) ⌝ }
+    requires { ⌜ account ≤ lastAccount ⌝ }
+    requires { ⌜ (length (now pairs) ≡ bufferWords) × (length (now out) ≡ 11264) ⌝ }
 {
     let mut mark = Mark::Fresh;
     loop {
@@ -37,9 +38,9 @@ fn print_batches(outer: &[u32], inner: &[u32], account: u32, pairs: &mut [u32], 
 // The same with room for a batch: 256 pairs, whose lines have at most 44 bytes each.
 fn print_account(outer: &[u32], inner: &[u32], account: u32)
     requires { ⌜ T (valid (now outer)) × T (valid (now inner)) ⌝ }
-    requires { ⌜ account ≤ 15 ⌝ }
+    requires { ⌜ account ≤ lastAccount ⌝ }
 {
-    let mut pairs = [0u32; 1024];
+    let mut pairs = [0u32; regions::BUFFER_WORDS];
     let mut out = [0u8; 11264];
     print_batches(outer, inner, account, &mut pairs, &mut out);
 }
@@ -57,8 +58,8 @@ fn print_join(outer: &[u32], inner: &[u32])
 
 // One listing's answer.
 fn answer(listing: &[u8]) {
-    let mut outer = [0u32; 12288];
-    let mut inner = [0u32; 12288];
+    let mut outer = [0u32; pages::IMAGE_WORDS];
+    let mut inner = [0u32; pages::IMAGE_WORDS];
     let heard = listing::read_listing(listing, &mut outer, &mut inner);
     if heard.number != 0 {
         refused(heard.number, heard.line);

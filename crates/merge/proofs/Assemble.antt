@@ -14,10 +14,11 @@ use Rattle.words.proofs.Counted.{one, count-nil, count-append, count-one, count
 use Rattle.regions.specs.declared.Region.{Region}
 use Rattle.xrtree.specs.Tree.{Key, Leaf, Inner, Tree, listRegions, listLeaves, listPages, listRecords, regions, leaves, pagePlaces, recordPlaces}
 use Rattle.xrtree.specs.Rules.{linked}
-use Rattle.xrtree.proofs.Claims.{Over, Fits}
-use Rattle.xrtree.proofs.Here.{Here}
-use Rattle.xrtree.proofs.Whole.{Part, Post, fillKids, fill, beforeKids, afterKids}
-use Rattle.xrtree.proofs.Whole.Post.{atKey, atEnd}
+use Rattle.xrtree.specs.Claims.{Over, Fits}
+use Rattle.xrtree.specs.Local.{Here, Part}
+use Rattle.xrtree.specs.Holes.{Post, fillKids, fill}
+use Rattle.xrtree.proofs.Whole.{beforeKids, afterKids}
+use Rattle.xrtree.specs.Holes.Post.{atKey, atEnd}
 use Rattle.pages.specs.Layout.{rootOf, heightOf, sharesOf, pageOf, markOf, recordOf, pageUsed, recordUsed}
 use Rattle.store.proofs.Kept.{page-used-same, record-used-same}
 use Rattle.holding.specs.Held.{placeOf, PageHeld, Held}

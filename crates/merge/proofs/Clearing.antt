@@ -11,12 +11,12 @@ use native.Mathlib.Omega.{arith}
 use Rattle.words.proofs.Tests.{eq-yes, eq-no}
 use Rattle.regions.specs.declared.Region.{Region}
 use Rattle.xrtree.specs.Tree.{Entry}
-use Rattle.xrtree.proofs.Merge.{anyStart, clear}
+use Rattle.xrtree.specs.Moves.{anyStart, clear}
 use Rattle.pages.specs.Layout.{markOf, fillOf, nextOf, recordOf, recordNext, regionIn, entryWord}
 use Rattle.image.specs.Read.{entriesFrom, entryAt, listPlaces, recordRegion}
-use Rattle.pagework.specs.Pages.{putFor, entriesOf, sparesOf, flaggedEntry, IsLeaf}
-use Rattle.pagework.proofs.Items.{up-long}
-use Rattle.pagework.proofs.Read.{entries-up, entry-in}
+use Rattle.newpages.specs.Pages.{putFor, entriesOf, sparesOf, flaggedEntry, IsLeaf}
+use Rattle.newpages.proofs.Items.{up-long}
+use Rattle.newpages.proofs.Read.{entries-up, entry-in}
 use Rattle.records.specs.Touched.{Ends}
 use Rattle.records.proofs.Chains.{step, none-at}
 

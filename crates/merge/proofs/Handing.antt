@@ -10,15 +10,14 @@ use native.Mathlib.Numerals.{add-one}
 use Rattle.words.specs.Lists.{count}
 use Rattle.words.proofs.Counted.{count-append}
 use Rattle.xrtree.specs.Tree.{Key, Tree}
-use Rattle.xrtree.proofs.Whole.{Post, fillKids}
-use Rattle.xrtree.proofs.Whole.Post.{atKey, atEnd}
+use Rattle.xrtree.specs.Holes.{Post, fillKids}
+use Rattle.xrtree.specs.Holes.Post.{atKey, atEnd}
 use Rattle.pages.specs.Layout.{markOf, fillOf, nextOf}
 use Rattle.pages.specs.declared.KeyWords.{KeyWords}
 use Rattle.image.specs.Decode.{keyWordsAt}
-use Rattle.holding.specs.Held.{KeyHeld, KeysHeld}
-use Rattle.holding.proofs.Frames.{keyRecords}
-use Rattle.pagework.specs.Pages.{takenOut, putFor, keysOf, childrenOf, IsInner}
-use Rattle.pagework.proofs.Read.{key-in, keys-long}
+use Rattle.holding.specs.Held.{KeyHeld, KeysHeld, keyRecords}
+use Rattle.newpages.specs.Pages.{takenOut, putFor, keysOf, childrenOf, IsInner}
+use Rattle.newpages.proofs.Read.{key-in, keys-long}
 use Rattle.records.specs.Touched.{Touched, Uses, Ends}
 use Rattle.records.specs.Kept.{Lifts, Apart}
 use Rattle.records.specs.declared.Lifted.{Lifted}
@@ -35,10 +34,6 @@ key-word w ws fs k bs l r =
     subst (λ x. KeyHeld w x k) (key-in ws 0 (fillOf ws) (length fs) (keyWordsAt ws 0) l ∙ ap (keyWordsAt ws) e) (r .here)
 
 module _ {w ws : List ℕ} {j : ℕ} (s : Leaving w ws j) where
-  -- the keys from key j on
-  kids : List (Tree (s .h) × Key)
-  kids = s .pre ++ (s .left, s .key) ∷ fillKids [] (s .post) (s .right)
-
   held-kids : KeysHeld w (keysOf ws) (s .pre ++ (s .left, s .key) ∷ fillKids [] (s .post) (s .right))
   held-kids = subst (KeysHeld w (keysOf ws)) (kids-more (s .pre) (s .post) (s .left) (s .right) (s .key)) (s .held)
 

@@ -1,6 +1,6 @@
 -- Two inner pages as one: what `inners` asks its callees for, and what it leaves.
 -- Assumes nothing.
-use Prim.Native.Nat.{ℕ, suc, _+_, _-_, _≤_}
+use Prim.Native.Nat.{ℕ, suc, _+_, _≤_}
 use mathlib.Core.Path.{_≡_, refl, sym, ap, ap₂, _∙_, subst}
 use mathlib.Core.Bool.{Bool}
 use mathlib.Core.List.{List, [], _∷_, _++_, append-assoc}
@@ -14,15 +14,14 @@ use Rattle.regions.specs.Positions.{stabs}
 use Rattle.regions.specs.declared.Region.{Region}
 use Rattle.xrtree.specs.Tree.{Key, Leaf, Inner, Tree, weave, listed, listRegions, listLeaves, listPages, listRecords, regions, leaves, allKids}
 use Rattle.xrtree.specs.Rules.{linked, filledBelow}
-use Rattle.xrtree.proofs.Claims.{pageAt}
-use Rattle.xrtree.proofs.Splice.{keyWith, movedPlaces, keptPlaces, sunk, leftOver, overPlaces}
-use Rattle.xrtree.proofs.Whole.{Part}
+use Rattle.xrtree.specs.Claims.{pageAt}
+use Rattle.xrtree.specs.Moves.{keyWith, movedPlaces, keptPlaces, sunk, leftOver, overPlaces}
+use Rattle.xrtree.specs.Local.{Part}
 use Rattle.pages.specs.Layout.{pageOf, fillOf, markOf, nextOf}
-use Rattle.holding.specs.Held.{KeysHeld, kidPlaces, EveryKid, placeOf, PageHeld, Held}
-use Rattle.holding.proofs.Frames.{keyRecords}
+use Rattle.holding.specs.Held.{KeysHeld, kidPlaces, EveryKid, placeOf, PageHeld, Held, keyRecords}
 use Rattle.standing.specs.Stands.{Roomy}
 use Rattle.standing.proofs.Counting.{place-once}
-use Rattle.pagework.specs.Pages.{keysOf, childrenOf, IsInner}
+use Rattle.newpages.specs.Pages.{keysOf, childrenOf, IsInner}
 use Rattle.records.specs.Touched.{Touched}
 use Rattle.records.proofs.Marks.{touched-in, touched-then, uses-then}
 use Rattle.steps.specs.Steps.{PairAt, Merged}

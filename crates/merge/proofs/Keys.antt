@@ -1,6 +1,6 @@
 -- The keys of a page, one by one against its words: one of them, all but one, one changed, and all of them where other records changed.
 -- Assumes nothing.
-use Prim.Native.Nat.{ℕ, suc, _+_, _-_, _≤_}
+use Prim.Native.Nat.{ℕ, suc, _+_, _≤_}
 use mathlib.Core.Path.{_≡_, refl, ap, _∙_}
 use mathlib.Core.List.{List, [], _∷_, _++_, append-assoc}
 use lib.ListN.{length, getD, take, drop}
@@ -10,15 +10,15 @@ use Rattle.words.proofs.Listed.{all-mono, all-append}
 use Rattle.words.proofs.Counted.{count-append}
 use Rattle.regions.specs.declared.Region.{Region}
 use Rattle.xrtree.specs.Tree.{Key}
-use Rattle.xrtree.proofs.Claims.{pairIs}
-use Rattle.xrtree.proofs.Splice.{firstStart, firstEnd, keyWith}
-use Rattle.xrtree.proofs.Whole.{Post, fillKids}
-use Rattle.xrtree.proofs.Whole.Post.{atKey, atEnd}
+use Rattle.xrtree.specs.Claims.{pairIs}
+use Rattle.xrtree.specs.Moves.{firstStart, firstEnd, keyWith}
+use Rattle.xrtree.specs.Holes.{Post, fillKids}
+use Rattle.xrtree.specs.Holes.Post.{atKey, atEnd}
 use Rattle.pages.specs.declared.KeyWords.{KeyWords}
-use Rattle.holding.specs.Held.{KeyHeld, KeysHeld}
+use Rattle.holding.specs.Held.{KeyHeld, KeysHeld, keyRecords}
 use Rattle.holding.proofs.Chains.{chain-range}
-use Rattle.holding.proofs.Frames.{key-frame, keyRecords, keys-frame}
-use Rattle.pagework.specs.Pages.{takenOut, putFor}
+use Rattle.holding.proofs.Frames.{key-frame, keys-frame}
+use Rattle.newpages.specs.Pages.{takenOut, putFor}
 use Rattle.records.specs.Touched.{Touched}
 use Rattle.records.proofs.Marks.{touched-list}
 

@@ -1,6 +1,6 @@
 -- Two leaves as one: what `leaves` asks its callees for, and what it leaves.
 -- Assumes nothing.
-use Prim.Native.Nat.{ℕ, _+_, _-_, _≤_}
+use Prim.Native.Nat.{ℕ, _+_, _≤_}
 use mathlib.Core.Path.{_≡_, refl, sym, ap, ap₂, _∙_, subst}
 use mathlib.Core.List.{List, _++_, map}
 use lib.Dec.{T}
@@ -12,14 +12,15 @@ use Rattle.words.proofs.Counted.{count-append}
 use Rattle.regions.specs.declared.Region.{Region}
 use Rattle.xrtree.specs.Tree.{Leaf, listed, regionOf, regions, leaves}
 use Rattle.xrtree.specs.Rules.{linked}
-use Rattle.xrtree.proofs.Claims.{leafAt}
-use Rattle.xrtree.proofs.Whole.{Part}
-use Rattle.xrtree.proofs.Merge.{clear, regions-clear}
+use Rattle.xrtree.specs.Claims.{leafAt}
+use Rattle.xrtree.specs.Local.{Part}
+use Rattle.xrtree.specs.Moves.{clear}
+use Rattle.xrtree.proofs.Merge.{regions-clear}
 use Rattle.pages.specs.Layout.{pageOf, fillOf, markOf, nextOf}
 use Rattle.image.specs.Read.{recordRegion}
 use Rattle.holding.specs.Held.{Chain, LeafHeld, Held}
 use Rattle.standing.specs.Stands.{top}
-use Rattle.pagework.specs.Pages.{entriesOf, sparesOf, IsLeaf}
+use Rattle.newpages.specs.Pages.{entriesOf, sparesOf, IsLeaf}
 use Rattle.records.specs.Touched.{AllUsed}
 use Rattle.records.specs.Kept.{Dropped}
 use Rattle.records.proofs.Chains.{places-are}

@@ -1,6 +1,6 @@
 -- Two neighbours in a page that stands: what the steps of a merge ask for, and the page above once their key has left it.
 -- Assumes nothing.
-use Prim.Native.Nat.{ℕ, suc, _+_, _-_, _≤_, _<_}
+use Prim.Native.Nat.{ℕ, suc, _+_, _≤_, _<_}
 use mathlib.Core.Path.{_≡_, refl, sym, ap, _∙_, subst}
 use mathlib.Core.Logic.{_≢_}
 use mathlib.Core.Bool.{Bool, true, false}
@@ -13,21 +13,22 @@ use Rattle.words.proofs.Counted.{one, count-append}
 use Rattle.regions.specs.Positions.{stabs}
 use Rattle.regions.specs.declared.Region.{Region}
 use Rattle.xrtree.specs.Tree.{Key, Tree, listed, listRegions, regions, recordPlaces}
-use Rattle.xrtree.proofs.Claims.{Page, pairIs, Over}
-use Rattle.xrtree.proofs.Here.{Here, here-all}
-use Rattle.xrtree.proofs.Splice.{movedPlaces}
-use Rattle.xrtree.proofs.Whole.{Part, FirstIs, Post, fillKids, fillLast, fill, beforeKids, afterKids}
+use Rattle.xrtree.specs.Claims.{Page, pairIs, Over}
+use Rattle.xrtree.specs.Local.{Here, Part, FirstIs}
+use Rattle.xrtree.proofs.Here.{here-all}
+use Rattle.xrtree.specs.Moves.{movedPlaces}
+use Rattle.xrtree.specs.Holes.{Post, fillKids, fillLast}
+use Rattle.xrtree.proofs.Whole.{beforeKids, afterKids}
 use Rattle.xrtree.proofs.Ops.{Facts}
-use Rattle.xrtree.proofs.Whole.Post.{atKey, atEnd}
+use Rattle.xrtree.specs.Holes.Post.{atKey, atEnd}
 use Rattle.pages.specs.Layout.{pageOf, fillOf, childIn, recordUsed}
-use Rattle.holding.specs.Held.{kidPlaces, placeOf, PageHeld}
-use Rattle.holding.proofs.Frames.{keyRecords}
+use Rattle.holding.specs.Held.{kidPlaces, placeOf, PageHeld, keyRecords}
 use Rattle.standing.specs.Stands.{top}
 use Rattle.standing.proofs.Counting.{all-counted, place-once, counted-used}
 use Rattle.store.specs.Store.{putPage, freePage}
 use Rattle.store.proofs.Frames.{put-page-long, put-page-here, put-page-other, put-page-record, put-page-head, free-page-long, free-page-other, free-page-record, free-page-head, free-page-used}
-use Rattle.pagework.specs.Pages.{takenOut, keysOf}
-use Rattle.pagework.proofs.Read.{child-in}
+use Rattle.newpages.specs.Pages.{takenOut, keysOf}
+use Rattle.newpages.proofs.Read.{child-in}
 use Rattle.records.specs.Touched.{Touched, Uses, AllUsed, Ends}
 use Rattle.steps.specs.Steps.{SameKey, rekeyed, PairAt, nextPlaces}
 use Rattle.steps.proofs.Listed.{pair-listed, regions-keyless}

@@ -1,6 +1,6 @@
 -- The local rules of a page two of whose children became one, with the children before a key or last.
 -- Assumes nothing.
-use Prim.Native.Nat.{ℕ, suc, _+_, _<_}
+use Prim.Native.Nat.{ℕ, suc, _<_}
 use mathlib.Core.Path.{_≡_, sym, _∙_, subst}
 use mathlib.Core.List.{List, [], _∷_, _++_, map, append-nil, append-assoc}
 use native.Mathlib.Omega.{arith}
@@ -8,13 +8,14 @@ use Rattle.words.specs.Lists.{All, Pairs}
 use Rattle.words.proofs.Listed.{all-mono, all-left, all-right, pairs-left, pairs-right, map-append}
 use Rattle.regions.specs.declared.Region.{Region}
 use Rattle.xrtree.specs.Tree.{Entry, Key, Leaf, Tree, weave, listed, regionOf, regions}
-use Rattle.xrtree.proofs.Claims.{leafAt, pageAt, regionsIn, InKids, In, Over, Fits}
-use Rattle.xrtree.proofs.Here.{Here, here-left, here-next, starts-weave, local-near}
-use Rattle.xrtree.proofs.Splice.{loAfter, keyWith, sunk, leftOver}
-use Rattle.xrtree.proofs.Whole.{Part, Post, fillKids, fillLast, fill}
-use Rattle.xrtree.proofs.Whole.Post.{atKey, atEnd}
+use Rattle.xrtree.specs.Claims.{leafAt, pageAt, regionsIn, InKids, In, Over, Fits}
+use Rattle.xrtree.specs.Local.{Here, Part}
+use Rattle.xrtree.proofs.Here.{here-left, here-next, starts-weave, local-near}
+use Rattle.xrtree.specs.Holes.{loAfter, Post, fillKids, fillLast, fill}
+use Rattle.xrtree.specs.Moves.{keyWith, sunk, leftOver, clear}
+use Rattle.xrtree.specs.Holes.Post.{atKey, atEnd}
 use Rattle.xrtree.proofs.Split.{part-at}
-use Rattle.xrtree.proofs.Merge.{clear, all-unmap, leaf-merge-mid, leaf-merge-last, inner-merge-mid, inner-merge-last}
+use Rattle.xrtree.proofs.Merge.{all-unmap, leaf-merge-mid, leaf-merge-last, inner-merge-mid, inner-merge-last}
 use Rattle.xrtree.proofs.Ops.{Facts}
 use Rattle.steps.specs.Steps.{rekeyed}
 use Rattle.merge.specs.Moves.{nextTook, restList}

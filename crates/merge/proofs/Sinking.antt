@@ -1,6 +1,6 @@
 -- A key's list is handed down to the keys of a page, first to last: what is done and what is left to do, by the turns of `sink`.
 -- Assumes nothing.
-use Prim.Native.Nat.{ℕ, suc, _+_, _-_, _≤_, _<_}
+use Prim.Native.Nat.{ℕ, suc, _+_, _≤_, _<_}
 use mathlib.Core.Path.{_≡_, refl, sym, ap, _∙_, subst}
 use mathlib.Core.List.{List, [], _∷_, _++_, append-assoc}
 use lib.ListN.{length, take, drop, length-append, take-append-drop}
@@ -10,14 +10,13 @@ use Rattle.words.proofs.Counted.{count-append}
 use Rattle.regions.specs.Positions.{stabs}
 use Rattle.regions.specs.declared.Region.{Region}
 use Rattle.xrtree.specs.Tree.{Key, Tree}
-use Rattle.xrtree.proofs.Splice.{keyWith, movedPlaces, keptPlaces, sunk, leftOver, overPlaces}
+use Rattle.xrtree.specs.Moves.{keyWith, movedPlaces, keptPlaces, sunk, leftOver, overPlaces}
 use Rattle.pages.specs.Layout.{markOf, fillOf, nextOf}
 use Rattle.pages.specs.declared.KeyWords.{KeyWords}
 use Rattle.image.specs.Decode.{keyWordsAt}
-use Rattle.holding.specs.Held.{KeyHeld, KeysHeld}
-use Rattle.holding.proofs.Frames.{keyRecords}
-use Rattle.pagework.specs.Pages.{putFor, keysOf, childrenOf, IsInner}
-use Rattle.pagework.proofs.Read.{keys-long}
+use Rattle.holding.specs.Held.{KeyHeld, KeysHeld, keyRecords}
+use Rattle.newpages.specs.Pages.{putFor, keysOf, childrenOf, IsInner}
+use Rattle.newpages.proofs.Read.{keys-long}
 use Rattle.records.specs.Touched.{Touched, Uses, Ends}
 use Rattle.records.specs.Kept.{Lifts, Apart}
 use Rattle.records.specs.declared.Lifted.{Lifted}

@@ -8,15 +8,14 @@ use Rattle.words.specs.Lists.{takeWhile, dropWhile, count}
 use Rattle.regions.specs.Positions.{stabs}
 use Rattle.regions.specs.declared.Region.{Region}
 use Rattle.xrtree.specs.Tree.{Key, Tree}
-use Rattle.xrtree.proofs.Claims.{pairIs}
-use Rattle.xrtree.proofs.Splice.{keyWith, movedPlaces, keptPlaces, sunk, leftOver, overPlaces}
-use Rattle.xrtree.proofs.Whole.{Post, fillKids}
-use Rattle.xrtree.proofs.Whole.Post.{atKey, atEnd}
-use Rattle.pages.specs.Layout.{markOf, fillOf}
+use Rattle.xrtree.specs.Claims.{pairIs}
+use Rattle.xrtree.specs.Moves.{keyWith, movedPlaces, keptPlaces, sunk, leftOver, overPlaces}
+use Rattle.xrtree.specs.Holes.{Post, fillKids}
+use Rattle.xrtree.specs.Holes.Post.{atKey, atEnd}
+use Rattle.pages.specs.Layout.{markOf, fillOf, pageWidth}
 use Rattle.pages.specs.declared.KeyWords.{KeyWords}
-use Rattle.holding.specs.Held.{KeyHeld, KeysHeld}
-use Rattle.holding.proofs.Frames.{keyRecords}
-use Rattle.pagework.specs.Pages.{takenOut, keysOf, childrenOf}
+use Rattle.holding.specs.Held.{KeyHeld, KeysHeld, keyRecords}
+use Rattle.newpages.specs.Pages.{takenOut, keysOf, childrenOf}
 use Rattle.records.specs.Touched.{Touched, Uses}
 use Rattle.steps.specs.Steps.{size, rekeyed, PairAt}
 use Rattle.merge.specs.declared.Handed.{Handed}
@@ -58,7 +57,7 @@ pub record HandedOn (w w′ ws : List ℕ) (j : ℕ) (s : Leaving w ws j) (r : H
   pub uses : Uses w w′ [] []
   pub rest-held : KeyHeld w′ (r .rest) (restKey (s .post) (s .key))
   pub keys-held : (t : Tree (s .h)) → KeysHeld w′ (keysOf (r .page)) (fillKids (s .pre) (rekeyed (s .post) (nextTook (s .post) (s .key))) t)
-  pub long : length (r .page) ≡ 57
+  pub long : length (r .page) ≡ pageWidth
   pub mark-is : markOf (r .page) ≡ markOf ws
   pub fill-is : fillOf (r .page) ≡ fillOf ws - 1
   pub children-are : childrenOf (r .page) ≡ takenOut (suc j) (childrenOf ws)

@@ -4,11 +4,11 @@ ghost use mathlib.Core.Path.{_≡_};
 ghost use mathlib.Core.List.{map};
 ghost use Prim.Native.Nat.{ℕ, suc, _+_, _<_, _≤_};
 ghost use lib.ListN.{length, getD};
-ghost use Rattle.pages.specs.Layout.{markOf, fillOf, nextOf};
+ghost use Rattle.pages.specs.Layout.{markOf, fillOf, nextOf, imageWords, pageCount};
 ghost use Rattle.image.specs.Read.{recordRegion, listPlaces};
 ghost use Rattle.image.specs.Decode.{keyWordsAt};
-ghost use Rattle.xrtree.proofs.Merge.{anyStart, clear};
-ghost use Rattle.pagework.specs.Pages.{IsLeaf, entriesOf, sparesOf};
+ghost use Rattle.xrtree.specs.Moves.{anyStart, clear};
+ghost use Rattle.newpages.specs.Pages.{IsLeaf, entriesOf, sparesOf};
 ghost use Rattle.store.specs.Store.{putPage, freePage};
 ghost use Rattle.records.specs.Touched.{Ends};
 ghost use Rattle.steps.specs.Steps.{PairAt, Merged};
@@ -18,11 +18,11 @@ use pages::KeyWords;
 // A page with lists changed, and what is left of the key whose list was handed out.
 pub struct Handed {
     pub rest: KeyWords,
-    pub page: [u32; 57],
+    pub page: [u32; pages::PAGE_WIDTH],
 }
 
 // Key i of a page's words.
-fn key_of(ws: [u32; 57], i: usize) -> KeyWords
+fn key_of(ws: [u32; pages::PAGE_WIDTH], i: usize) -> KeyWords
     requires { ⌜ i < 9 ⌝ }
     ensures { λ r. ⌜ r ≡ keyWordsAt ws i ⌝ }
 {
@@ -36,12 +36,12 @@ fn key_of(ws: [u32; 57], i: usize) -> KeyWords
 }
 
 // Takes key j and the child on its right out of a page. What the next key stabs of the key's list is that key's now, or no search would find it.
-fn hand_on(img: &mut [u32], ws: [u32; 57], j: usize) -> Handed
-    requires { ⌜ (length (now img) ≡ 12288) × (fillOf ws ≤ 9) × Leaving (now img) ws j ⌝ }
+fn hand_on(img: &mut [u32], ws: [u32; pages::PAGE_WIDTH], j: usize) -> Handed
+    requires { ⌜ (length (now img) ≡ imageWords) × (fillOf ws ≤ 9) × Leaving (now img) ws j ⌝ }
     ensures { λ r. ⌜ ((s : Leaving (now (img .entry)) ws j) → HandedOn (now (img .entry)) (now (img .exit)) ws j s r) ⌝ }
 {
     let key = key_of(ws, j);
-    let without = pagework::inner_without(ws, j);
+    let without = newpages::inner_without(ws, j);
     if j + 1 == words::wide(ws[1]) {
         return Handed {
             rest: key,
@@ -52,7 +52,7 @@ fn hand_on(img: &mut [u32], ws: [u32; 57], j: usize) -> Handed
     let lifted = records::lift(img, key, next, next.key);
     let rest = lifted.from;
     let took = lifted.to;
-    let page = pagework::set_key(without, j, took);
+    let page = newpages::set_key(without, j, took);
     Handed {
         rest: rest,
         page: page,
@@ -76,7 +76,7 @@ fn in_list(img: &[u32], head: u32, start: u32) -> bool
 }
 
 // A leaf whose entries in the list from `head` on get flag 0: that list is given up.
-fn clear_flags(img: &[u32], leaf: [u32; 57], head: u32) -> [u32; 57]
+fn clear_flags(img: &[u32], leaf: [u32; pages::PAGE_WIDTH], head: u32) -> [u32; pages::PAGE_WIDTH]
     requires { ⌜ (fillOf leaf ≤ 9) × Ends (now img) head ⌝ }
     ensures { λ s. ⌜ IsLeaf s (markOf leaf) (fillOf leaf) (nextOf leaf) (map (clear (map (recordRegion (now (img .entry))) (listPlaces (now (img .entry)) head))) (entriesOf leaf)) (sparesOf leaf) ⌝ }
 {
@@ -85,7 +85,7 @@ fn clear_flags(img: &[u32], leaf: [u32; 57], head: u32) -> [u32; 57]
     let mut i: usize = 0;
     while i < n {
         if in_list(img, head, ws[3 + 6 * i]) {
-            let cleared = pagework::set_flag(ws, i, 0);
+            let cleared = newpages::set_flag(ws, i, 0);
             ws = cleared;
         }
         i += 1;
@@ -94,8 +94,8 @@ fn clear_flags(img: &[u32], leaf: [u32; 57], head: u32) -> [u32; 57]
 }
 
 // The key k comes down beside a page: each key of the page, first to last, takes what it stabs of k's list.
-fn sink(img: &mut [u32], ws: [u32; 57], k: KeyWords) -> Handed
-    requires { ⌜ (length (now img) ≡ 12288) × (fillOf ws ≤ 9) × Sinking (now img) ws k ⌝ }
+fn sink(img: &mut [u32], ws: [u32; pages::PAGE_WIDTH], k: KeyWords) -> Handed
+    requires { ⌜ (length (now img) ≡ imageWords) × (fillOf ws ≤ 9) × Sinking (now img) ws k ⌝ }
     ensures { λ r. ⌜ ((s : Sinking (now (img .entry)) ws k) → Sank (now (img .entry)) (now (img .exit)) ws k s r) ⌝ }
 {
     let n = words::wide(ws[1]);
@@ -106,7 +106,7 @@ fn sink(img: &mut [u32], ws: [u32; 57], k: KeyWords) -> Handed
         let to = key_of(page, i);
         let lifted = records::lift(img, rest, to, to.key);
         let took = lifted.to;
-        let keyed = pagework::set_key(page, i, took);
+        let keyed = newpages::set_key(page, i, took);
         page = keyed;
         rest = lifted.from;
         i += 1;
@@ -118,9 +118,16 @@ fn sink(img: &mut [u32], ws: [u32; 57], k: KeyWords) -> Handed
 }
 
 // The stores of a merge: the joined page at the left one's place, the page above without their key, and the right one's place given back.
-fn store_merged(img: &mut [u32], left: u32, joined: [u32; 57], q: u32, above: [u32; 57], right: u32)
-    requires { ⌜ length (now img) ≡ 12288 ⌝ }
-    requires { ⌜ (1 ≤ left) × (left ≤ 160) × (1 ≤ q) × (q ≤ 160) × (1 ≤ right) × (right ≤ 160) ⌝ }
+fn store_merged(
+    img: &mut [u32],
+    left: u32,
+    joined: [u32; pages::PAGE_WIDTH],
+    q: u32,
+    above: [u32; pages::PAGE_WIDTH],
+    right: u32,
+)
+    requires { ⌜ length (now img) ≡ imageWords ⌝ }
+    requires { ⌜ (1 ≤ left) × (left ≤ pageCount) × (1 ≤ q) × (q ≤ pageCount) × (1 ≤ right) × (right ≤ pageCount) ⌝ }
     ensures { λ _. ⌜ now (img .exit) ≡ freePage (putPage (putPage (now (img .entry)) left joined) q above) right ⌝ }
 {
     store::store_page(img, left, joined);
@@ -139,7 +146,7 @@ pub fn leaves(img: &mut [u32], path: [u32; 4], at: usize, j: usize)
     let right = page[39 + (j + 1)];
     let a = store::load_page(img, left);
     let b = store::load_page(img, right);
-    let joined = pagework::leaf_joined(a, b);
+    let joined = newpages::leaf_joined(a, b);
     let handed = hand_on(img, page, j);
     let rest = handed.rest;
     let above = handed.page;
@@ -165,6 +172,6 @@ pub fn inners(img: &mut [u32], path: [u32; 4], at: usize, j: usize)
     let sunk = sink(img, a, rest);
     let key = sunk.rest;
     let lower = sunk.page;
-    let joined = pagework::inner_joined(lower, key, b);
+    let joined = newpages::inner_joined(lower, key, b);
     store_merged(img, left, joined, q, above, right);
 }

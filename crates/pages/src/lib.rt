@@ -3,8 +3,32 @@
 ghost use mathlib.Core.Path.{_≡_};
 ghost use Prim.Native.Nat.{_+_, _*_, _<_, _≤_};
 ghost use lib.ListN.{getD};
-ghost use Rattle.pages.specs.Layout.{pageOf, recordOf, markOf, fillOf, nextOf, regionIn, entryWord, flagIn, keyWord, childIn, recordNext, recordEnd};
+ghost use Rattle.pages.specs.Layout.{pageOf, recordOf, markOf, fillOf, nextOf, regionIn, entryWord, flagIn, keyWord, childIn, recordNext, recordEnd, pageWidth};
 use regions::Region;
+
+// The layout's numbers, as specs/Layout has them: an image and a page in words, how many pages and stab records there are,
+pub const IMAGE_WORDS: usize = 12288;
+
+pub const PAGE_WIDTH: usize = 57;
+
+pub const PAGE_COUNT: u32 = 160;
+
+pub const RECORD_COUNT: u32 = 500;
+// and of a page's words the head, an entry, a key, the first child; of a record's, all, and the words before record 0.
+pub const HEAD_WIDTH: usize = 3;
+
+pub const ENTRY_WIDTH: usize = 6;
+
+pub const KEY_WIDTH: usize = 4;
+
+pub const FIRST_CHILD: usize = 39;
+
+pub const RECORD_WIDTH: usize = 6;
+
+pub const RECORD_BASE: usize = 9177;
+
+// A page by value.
+pub type Page = [u32; 57];
 
 // A key of an inner page: the key, its stored pair, the head of its list.
 pub struct KeyWords {
@@ -16,7 +40,7 @@ pub struct KeyWords {
 
 // Word i of page p.
 pub fn page_word(img: &[u32], p: u32, i: usize) -> u32
-    requires { ⌜ i < 57 ⌝ }
+    requires { ⌜ i < pageWidth ⌝ }
     ensures { λ r. ⌜ r ≡ getD (pageOf (now (img .entry)) p) i 0 ⌝ }
 {
     words::word(img, 57 * words::wide(p) + i)
@@ -45,7 +69,7 @@ pub fn next_leaf(img: &[u32], p: u32) -> u32
 
 // Four words of a page from word b on, as a region.
 pub fn region_at(img: &[u32], p: u32, b: usize) -> Region
-    requires { ⌜ b + 4 ≤ 57 ⌝ }
+    requires { ⌜ b + 4 ≤ pageWidth ⌝ }
     ensures { λ r. ⌜ r ≡ regionIn (pageOf (now (img .entry)) p) b ⌝ }
 {
     Region {

@@ -5,6 +5,7 @@ use mathlib.Core.Bool.{cond}
 use mathlib.Core.List.{List, [], _∷_, _++_}
 use lib.Dec.{ltb}
 use lib.ListN.{getD, take}
+use Rattle.xrtree.specs.Tree.{Key}
 use Rattle.pages.specs.Layout.{rootOf, pageOf, fillOf, keyWord, childIn}
 use Rattle.image.specs.Read.{depthOf}
 
@@ -36,3 +37,9 @@ downTo (suc j) w x p = downTo j w x (childFor w x p)
 -- a path in four words, 0 behind it
 unfoldable pub padded : List ℕ → List ℕ
 padded ps = take 4 (ps ++ 0 ∷ 0 ∷ 0 ∷ 0 ∷ [])
+
+-- ON TREES: the child that a walk along the keys comes to
+module _ {A : Type 0} where
+  unfoldable pub kidFor : ℕ → List (A × Key) → A → A
+  kidFor x [] last = last
+  kidFor x (c ∷ cs) last = cond (ltb x (c .1 .key)) (c .0) (kidFor x cs last)

@@ -14,7 +14,8 @@ use Rattle.lines.specs.Text.{decimal, line}
 use Rattle.lines.specs.Reads.{PutsLine}
 use Rattle.lines.proofs.Digits.{decimal-few}
 use Rattle.lines.proofs.Written.{line-more, line-one}
-use Rattle.regions.specs.Calls.{Pair, pairWords, pairWidth, countWritten}
+use Rattle.regions.specs.Limits.{pairWidth}
+use Rattle.regions.specs.Calls.{Pair, pairWords, countWritten}
 use Rattle.regions.specs.Desk.{past, markBehind}
 use Rattle.regions.specs.declared.Mark.{Mark}
 use Rattle.regions.specs.declared.Mark.the-variants.{Last}

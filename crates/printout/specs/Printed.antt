@@ -9,7 +9,8 @@ use lib.ListN.{length, take, drop, getD}
 use lib.Seq.{sets}
 use Rattle.lines.specs.Text.{line}
 use Rattle.regions.specs.Sets.{Set}
-use Rattle.regions.specs.Calls.{Pair, joined, pairWords, pairWidth, written}
+use Rattle.regions.specs.Limits.{pairWidth}
+use Rattle.regions.specs.Calls.{Pair, joined, pairWords, written}
 use Rattle.regions.specs.Desk.{past, markBehind}
 use Rattle.regions.specs.declared.Kind.the-variants.{Ancestor}
 use Rattle.regions.specs.declared.Mark.{Mark}

@@ -3,6 +3,7 @@ ghost use mathlib.Core.Path.{_≡_};
 ghost use Prim.Native.Nat.{_+_, _*_, _≤_};
 ghost use lib.Dec.{T};
 ghost use lib.ListN.{length, take, drop};
+ghost use Rattle.regions.specs.Limits.{bufferWords, lastAccount};
 ghost use Rattle.regions.specs.Calls.{joined};
 ghost use Rattle.regions.specs.declared.Kind.the-variants.{Ancestor};
 ghost use Rattle.image.specs.Read.{setOf};
@@ -63,8 +64,8 @@ pub fn next_lines(
     out: &mut [u8],
 ) -> Batch
     requires { ⌜ T (valid (now outer)) × T (valid (now inner)) ⌝ }
-    requires { ⌜ account ≤ 15 ⌝ }
-    requires { ⌜ (length (now words) ≡ 1024) × (11264 ≤ length (now out)) ⌝ }
+    requires { ⌜ account ≤ lastAccount ⌝ }
+    requires { ⌜ (length (now words) ≡ bufferWords) × (11264 ≤ length (now out)) ⌝ }
     ensures { λ r. ⌜ PutsBatch (joined (setOf (now (outer .entry))) (setOf (now (inner .entry))) account Ancestor) mark (now (words .entry)) (now (out .entry)) (r .bytes) (r .pairs) (r .mark) (now (words .exit)) (now (out .exit)) ⌝ }
 {
     let n = join::pairs_past(outer, inner, account, Kind::Ancestor, mark, words, false);

@@ -112,11 +112,6 @@ last-off y x xs h =
 pub last-range : (x : ℕ) (xs : List ℕ) → All (λ p. (1 ≤ p) × (p ≤ 500)) (x ∷ xs) → (1 ≤ lastOr x xs) × (lastOr x xs ≤ 500)
 last-range x xs a = all-last (λ p. (1 ≤ p) × (p ≤ 500)) x xs (a .0) (a .1)
 
-pub last-high : (xs : List ℕ) → All (λ p. (1 ≤ p) × (p ≤ 500)) xs → lastOr 0 xs ≤ 500
-unfolding lastOr
-last-high [] a = omega arith
-last-high (x ∷ xs) a = last-range x xs a .1
-
 -- any place but 0 that does not stand in a list is not its last
 pub last-else : (y : ℕ) (xs : List ℕ) → 1 ≤ y → count y xs ≡ 0 → lastOr 0 xs ≢ y
 unfolding lastOr

@@ -13,7 +13,7 @@ use Rattle.words.proofs.Listed.{all-right, all-mono, map-append}
 use Rattle.words.proofs.Counted.{count-append, count-same, count-other, count-more, all-off}
 use Rattle.regions.specs.declared.Region.{Region}
 use Rattle.xrtree.specs.Tree.{Key}
-use Rattle.xrtree.proofs.Enter.{put}
+use Rattle.xrtree.specs.Moves.{put}
 use Rattle.pages.specs.Layout.{recordOf, recordUsed, regionIn}
 use Rattle.pages.specs.declared.KeyWords.{KeyWords}
 use Rattle.image.specs.Read.{recordRegion}
@@ -177,12 +177,3 @@ entered-law w w₁ w₂ k r p q n d t l o f e en e₁ ed e₂ et key h a =
     let g : w₂ ≡ linkedWords (putRecord w q r (behind w (k .head) p)) p q = e₂ ∙ ap (λ x. linkedWords x p q) (e₁ ∙ ap (putRecord w q r) en) in
     subst (λ x. Came w w₂ (key .places) (enteredKey key r) x) (sym (et ∙ ap (keyFrom w₂ (k .key)) ed))
     (subst (λ x. Came w x (key .places) (enteredKey key r) (keyFrom x (k .key) (linkedHead (k .head) p q))) (sym g) (entered-at w k r p q key l o f e h a))
-
--- the places after it, by counts
-pub entered-counts : (key : Key) (r : Region) (q x : ℕ) → count x (enteredKey key r q .places) ≡ count x (q ∷ key .places)
-unfolding count
-entered-counts key r q x =
-    let xs = frontPlaces (r .start) key in
-    let ys = backPlaces (r .start) key in
-    let e : count x xs + count x ys ≡ count x (key .places) = sym (count-append x xs ys) ∙ ap (count x) (take-append-drop (length (takeWhile (before (r .start)) (key .list))) (key .places)) in
-    omega (arith, count-append x xs (q ∷ ys))

@@ -13,8 +13,7 @@ use Rattle.words.proofs.Listed.{all-right, all-two, map-append, while-join}
 use Rattle.words.proofs.Counted.{count-append, count-same, count-other, count-more, all-off}
 use Rattle.regions.specs.declared.Region.{Region}
 use Rattle.xrtree.specs.Tree.{Key}
-use Rattle.xrtree.proofs.Splice.{keyWith}
-use Rattle.xrtree.proofs.Enter.{out, behind as rest}
+use Rattle.xrtree.specs.Moves.{keyWith, out, behind as rest}
 use Rattle.pages.specs.Layout.{recordOf, recordNext, recordUsed}
 use Rattle.pages.specs.declared.KeyWords.{KeyWords}
 use Rattle.image.specs.Read.{listPlaces, recordRegion}
@@ -25,7 +24,7 @@ use Rattle.store.specs.Store.{freeRecord}
 use Rattle.store.proofs.Frames.{free-record-long, free-record-other, free-record-next, free-record-used, free-record-used-other}
 use Rattle.records.specs.Touched.{Touched, Uses, AllUsed, Ends}
 use Rattle.records.specs.Ways.{before, passing, LastOf, behind, linkedWords, linkedHead, keyFrom, freeAll}
-use Rattle.records.specs.Kept.{Went, frontPlaces, backPlaces, Dropped, leftKey}
+use Rattle.records.specs.Kept.{Went, frontPlaces, backPlaces, Dropped}
 use Rattle.records.proofs.Chains.{chain-once, places-are, More, more, ended, step, none-at, behind-chain}
 use Rattle.records.proofs.Marks.{touched-none, touched-in, touched-then, touched-free, uses-same, uses-then, uses-freed}
 use Rattle.records.proofs.Splices.{Linked, linked, linked-list, splice, renewed-held, Cut, cut}
@@ -121,15 +120,6 @@ left-law w w₁ w₂ k s p q n d t l o eq nz en e₁ ed e₂ et key h a =
     let r : t ≡ keyFrom w₂ (k .key) (linkedHead (k .head) p (recordNext (recordOf w q))) = et ∙ ap (keyFrom w₂ (k .key)) (ed ∙ ap (linkedHead (k .head) p) en) in
     subst (λ x. Went w w₂ key s x) (sym r)
     (subst (λ x. Went w x key s (keyFrom x (k .key) (linkedHead (k .head) p (recordNext (recordOf w q))))) (sym g) (record { touched = m .0; uses = m .1; held = m .2 }))
-
--- the places after it, by counts
-pub left-counts : (key : Key) (s x : ℕ) → count x (leftKey key s .places) + count x (take 1 (backPlaces s key)) ≡ count x (key .places)
-left-counts key s x =
-    let xs = frontPlaces s key in
-    let ys = backPlaces s key in
-    let e : count x xs + count x ys ≡ count x (key .places) = sym (count-append x xs ys) ∙ ap (count x) (take-append-drop (length (takeWhile (before s) (key .list))) (key .places)) in
-    let f : count x (take 1 ys) + count x (drop 1 ys) ≡ count x ys = sym (count-append x (take 1 ys) (drop 1 ys)) ∙ ap (count x) (take-append-drop 1 ys) in
-    omega (arith, count-append x xs (drop 1 ys))
 
 -- the second part is empty: nothing goes
 pub left-none : (w : List ℕ) (k : KeyWords) (s p q : ℕ) (t : KeyWords) → LastOf (before s) w (k .head) p → q ≡ behind w (k .head) p → q ≡ 0 → t ≡ keyFrom w (k .key) (k .head)

@@ -10,7 +10,7 @@ use Rattle.words.proofs.Listed.{all-every, map-append}
 use Rattle.words.proofs.Counted.{count-append}
 use Rattle.regions.specs.Positions.{stabs}
 use Rattle.xrtree.specs.Tree.{Key}
-use Rattle.xrtree.proofs.Splice.{movedPlaces, keptPlaces}
+use Rattle.xrtree.specs.Moves.{movedPlaces, keptPlaces}
 use Rattle.pages.specs.declared.KeyWords.{KeyWords}
 use Rattle.image.specs.Read.{recordRegion}
 use Rattle.holding.specs.Held.{Chain, KeyHeld}
@@ -56,11 +56,3 @@ lifted-law w w′ k j x p n d gave took l o en ed ew eg et a b ha hb f =
     let t : took ≡ keyFrom w′ (j .key) (linkedHead (k .head) p (j .head)) = et ∙ ap (keyFrom w′ (j .key)) ed in
     rw (g, t)
     (subst (λ z. Lifts w z a b x (record { from = keyFrom z (k .key) (behind w (k .head) p); to = keyFrom z (j .key) (linkedHead (k .head) p (j .head)) })) (sym ew) (lifted-at w k j x p a b l o ha hb f))
-
--- the places after it, by counts
-pub lifted-counts : (a b : Key) (n x : ℕ) → count x (keptPlaces n (a .list) (a .places)) + count x (movedPlaces n (a .list) (a .places) ++ b .places) ≡ count x (a .places) + count x (b .places)
-lifted-counts a b n x =
-    let xs = movedPlaces n (a .list) (a .places) in
-    let ys = keptPlaces n (a .list) (a .places) in
-    let e : count x xs + count x ys ≡ count x (a .places) = sym (count-append x xs ys) ∙ ap (count x) (take-append-drop (length (takeWhile (stabs n) (a .list))) (a .places)) in
-    omega (arith, count-append x xs (b .places))

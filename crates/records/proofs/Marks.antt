@@ -1,24 +1,22 @@
 -- Changes of records: which stay, which are taken or given back, one change after another; and rule 7 by counts.
 -- Assumes nothing.
-use Prim.Native.Nat.{ℕ, _+_, _≤_, _<_}
+use Prim.Native.Nat.{ℕ, _+_, _≤_}
 use mathlib.Core.Path.{_≡_, refl, sym, ap, _∙_}
 use mathlib.Core.Logic.{_≢_}
-use mathlib.Core.Bool.{Bool, true, false, cond, true≢false}
+use mathlib.Core.Bool.{true, false, cond, true≢false}
 use mathlib.Core.List.{List, [], _∷_, _++_}
-use lib.ListN.{length}
 use native.Mathlib.Omega.{arith}
 use native.Mathlib.Decide.{ℕ-discrete}
 use Rattle.words.specs.Lists.{All, count}
-use Rattle.words.proofs.Counted.{one, count-same, count-other, count-none, count-append, sum-count, pigeon}
-use Rattle.words.proofs.Listed.{all-mono}
+use Rattle.words.proofs.Counted.{one, count-same, count-other, count-none, count-append}
 use Rattle.regions.specs.declared.Region.{Region}
 use Rattle.pages.specs.Layout.{recordUsed}
 use Rattle.store.specs.Store.{putRecord, setNext, freeRecord, FirstFree}
 use Rattle.store.proofs.Frames.{put-record-long, put-record-page, put-record-head, put-record-other, set-next-long, set-next-page, set-next-head, set-next-other, free-record-long, free-record-page, free-record-head, free-record-other}
-use Rattle.store.proofs.Places.{Fair, all-counted, counted-has, used-listed}
-use Rattle.holding.specs.Held.{KeyHeld, Held}
-use Rattle.holding.proofs.Frames.{SameRecord, held-frame}
-use Rattle.xrtree.specs.Tree.{Key, Tree, pagePlaces, recordPlaces}
+use Rattle.store.proofs.Places.{all-counted, counted-has}
+use Rattle.holding.specs.Held.{KeyHeld}
+use Rattle.holding.proofs.Frames.{SameRecord}
+use Rattle.xrtree.specs.Tree.{Key}
 use Rattle.pages.specs.declared.KeyWords.{KeyWords}
 use Rattle.records.specs.Touched.{Touched, Uses, AllUsed, Room, Ends}
 
@@ -115,35 +113,6 @@ uses-freed {w} {w′} {q} a b f =
           ];
     }
 
--- RULE 7, by counts: the records that all lists together have
-module _ (w : List ℕ) {ps : List ℕ} (fair : Fair (recordUsed w) 500 ps) where
-  -- what stands in the lists is in use
-  pub fair-used : (qs : List ℕ) → ((x : ℕ) → count x qs ≤ count x ps) → AllUsed w qs
-  fair-used qs f = all-counted (λ q. recordUsed w q ≡ true) qs (λ x h. used-listed fair x (omega (arith, f x)) .2)
-
-  -- with fewer than 500 records in the lists one is free
-  pub fair-room : length ps < 500 → Room w
-  fair-room h =
-      let x = pigeon (λ i. count i ps) 500 (omega (arith, sum-count ps 500 (fair .range))) in
-      record { place = x .0; low = x .1; high = x .2; free = off (recordUsed w (x .0)) (omega (arith, x .3, fair .counts (x .0) (x .1) (x .2))) }
-    where
-      off : (b : Bool) → one b ≡ 0 → b ≡ false
-      off true e = absurd (omega arith)
-      off false e = refl
-
-  -- a change, and the lists after it
-  pub fair-uses : {w′ : List ℕ} {taken freed : List ℕ} → Uses w w′ taken freed → (qs : List ℕ) → All (λ q. (1 ≤ q) × (q ≤ 500)) taken
-      → ((x : ℕ) → count x qs + count x freed ≡ count x ps + count x taken) → Fair (recordUsed w′) 500 qs
-  fair-uses {w′} {taken} {freed} u qs a f =
-      record {
-        range = all-counted (λ q. (1 ≤ q) × (q ≤ 500)) qs (λ x h. inside x h (ℕ-discrete (count x ps) 0));
-        counts = λ i l h. omega (arith, u .counts i l h, f i, fair .counts i l h);
-      }
-    where
-      inside : (x : ℕ) → 0 < count x qs → Dec (count x ps ≡ 0) → (1 ≤ x) × (x ≤ 500)
-      inside x h (yes e) = counted-has (λ q. (1 ≤ q) × (q ≤ 500)) x taken a (omega (arith, f x))
-      inside x h (no n) = counted-has (λ q. (1 ≤ q) × (q ≤ 500)) x ps (fair .range) (omega arith)
-
 -- a free record stands in no list whose records are in use
 pub free-off : (w : List ℕ) (q : ℕ) (qs : List ℕ) → recordUsed w q ≡ false → AllUsed w qs → count q qs ≡ 0
 free-off w q qs f a =
@@ -162,8 +131,3 @@ room-first w q r f =
 -- a key's list ends
 pub held-ends : (w : List ℕ) (x : KeyWords) (k : Key) → KeyHeld w x k → Ends w (x .head)
 held-ends w x k h = record { places = k .places; chain = h .chain }
-
--- a tree none of whose records changed is held as before
-pub held-touched : {w w′ : List ℕ} {ps : List ℕ} → Touched w w′ ps → (h : ℕ) (t : Tree h) → All (λ p. p ≤ 160) (pagePlaces h t) → All (λ q. 1 ≤ q) (recordPlaces h t)
-    → ((x : ℕ) → count x ps + count x (recordPlaces h t) ≤ 1) → Held w h t → Held w′ h t
-held-touched {w} {w′} t h u a b f g = held-frame w w′ h u (all-mono (λ p m. t .pages p m) (pagePlaces h u) a) (touched-list t (recordPlaces h u) b f) g

@@ -1,6 +1,6 @@
 -- A list that goes on elsewhere behind one of its places; a key renewed; the two parts of a key's list.
 -- Assumes nothing.
-use Prim.Native.Nat.{ℕ, _+_, _≤_}
+use Prim.Native.Nat.{ℕ, _≤_}
 use mathlib.Core.Path.{_≡_, refl, sym, ap, _∙_, subst}
 use mathlib.Core.Logic.{_≢_}
 use mathlib.Core.Bool.{Bool, cond}
@@ -14,7 +14,7 @@ use Rattle.words.proofs.Listed.{all-left}
 use Rattle.words.proofs.Counted.{count-append, count-none, count-other}
 use Rattle.regions.specs.declared.Region.{Region}
 use Rattle.xrtree.specs.Tree.{Key}
-use Rattle.xrtree.proofs.Splice.{keyWith, firstStart, firstEnd}
+use Rattle.xrtree.specs.Moves.{keyWith, firstStart, firstEnd}
 use Rattle.pages.specs.Layout.{recordOf, recordNext, recordUsed}
 use Rattle.pages.specs.declared.KeyWords.{KeyWords}
 use Rattle.image.specs.Read.{recordRegion}

@@ -4,11 +4,11 @@ use Prim.Native.Nat.{ℕ, _+_, _≤_}
 use mathlib.Core.List.{List, [], _∷_, _++_}
 use lib.ListN.{length, take, drop}
 use Rattle.words.specs.Lists.{takeWhile, dropWhile, count}
+use Rattle.pages.specs.Layout.{recordCount}
 use Rattle.regions.specs.Positions.{stabs}
 use Rattle.regions.specs.declared.Region.{Region}
 use Rattle.xrtree.specs.Tree.{Key}
-use Rattle.xrtree.proofs.Splice.{keyWith, movedPlaces, keptPlaces}
-use Rattle.xrtree.proofs.Enter.{put, out}
+use Rattle.xrtree.specs.Moves.{keyWith, movedPlaces, keptPlaces, put, out}
 use Rattle.pages.specs.declared.KeyWords.{KeyWords}
 use Rattle.holding.specs.Held.{KeyHeld}
 use Rattle.records.specs.Touched.{Touched, Uses}
@@ -19,7 +19,7 @@ use Rattle.records.specs.declared.Lifted.{Lifted}
 pub record Came (w w′ : List ℕ) (qs : List ℕ) (of : ℕ → Key) (t : KeyWords) : Type 0 where
   pub place : ℕ
   pub low : 1 ≤ place
-  pub high : place ≤ 500
+  pub high : place ≤ recordCount
   pub touched : Touched w w′ (place ∷ qs)
   pub uses : Uses w w′ (place ∷ []) []
   pub held : KeyHeld w′ t (of place)

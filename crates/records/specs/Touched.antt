@@ -6,7 +6,7 @@ use mathlib.Core.Bool.{true, false, cond}
 use mathlib.Core.List.{List}
 use lib.ListN.{length}
 use Rattle.words.specs.Lists.{All, count}
-use Rattle.pages.specs.Layout.{rootOf, heightOf, sharesOf, pageOf, recordOf, recordUsed}
+use Rattle.pages.specs.Layout.{rootOf, heightOf, sharesOf, pageOf, recordOf, recordUsed, pageCount, recordCount}
 use Rattle.holding.specs.Held.{Chain}
 
 -- w′ is w but for the records at the places qs
@@ -15,7 +15,7 @@ pub record Touched (w w′ : List ℕ) (qs : List ℕ) : Type 0 where
   pub root : rootOf w′ ≡ rootOf w
   pub height : heightOf w′ ≡ heightOf w
   pub shares : sharesOf w′ ≡ sharesOf w
-  pub pages : (p : ℕ) → p ≤ 160 → pageOf w′ p ≡ pageOf w p
+  pub pages : (p : ℕ) → p ≤ pageCount → pageOf w′ p ≡ pageOf w p
   pub records : (q : ℕ) → 1 ≤ q → count q qs ≡ 0 → recordOf w′ q ≡ recordOf w q
 
 -- 1 for a record in use, 0 for a free one
@@ -24,7 +24,7 @@ inUse w q = cond (recordUsed w q) 1 0
 
 -- the records at the places `taken` were free and are in use, those at `freed` were in use and are free, all others are as they were
 pub record Uses (w w′ : List ℕ) (taken freed : List ℕ) : Type 0 where
-  pub counts : (q : ℕ) → 1 ≤ q → q ≤ 500 → inUse w′ q + count q freed ≡ inUse w q + count q taken
+  pub counts : (q : ℕ) → 1 ≤ q → q ≤ recordCount → inUse w′ q + count q freed ≡ inUse w q + count q taken
 
 abbrev pub AllUsed : List ℕ → List ℕ → Type 0
 AllUsed w qs = All (λ q. recordUsed w q ≡ true) qs
@@ -33,7 +33,7 @@ AllUsed w qs = All (λ q. recordUsed w q ≡ true) qs
 pub record Room (w : List ℕ) : Type 0 where
   pub place : ℕ
   pub low : 1 ≤ place
-  pub high : place ≤ 500
+  pub high : place ≤ recordCount
   pub free : recordUsed w place ≡ false
 
 -- the list from place q on comes to an end

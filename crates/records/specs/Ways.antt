@@ -7,7 +7,7 @@ use mathlib.Core.List.{List, [], _∷_}
 use lib.Dec.{eqb, ltb}
 use Rattle.words.specs.Lists.{takeWhile, lastOr}
 use Rattle.regions.specs.declared.Region.{Region}
-use Rattle.pages.specs.Layout.{recordOf, recordNext}
+use Rattle.pages.specs.Layout.{recordOf, recordNext, recordCount}
 use Rattle.pages.specs.declared.KeyWords.{KeyWords}
 use Rattle.image.specs.Read.{recordRegion, listPlaces}
 use Rattle.store.specs.Store.{setNext, freeRecord}
@@ -21,7 +21,7 @@ abbrev pub passing : (Region → Bool) → List ℕ → ℕ → Bool
 passing P w q = P (recordRegion w q)
 
 pub record LastOf (P : Region → Bool) (w : List ℕ) (head r : ℕ) : Type 0 where
-  pub high : r ≤ 500
+  pub high : r ≤ recordCount
   pub is : r ≡ lastOr 0 (takeWhile (passing P w) (listPlaces w head))
 
 -- what stands behind place p in the list from `head` on, and at its front where p is 0

@@ -4,6 +4,7 @@ ghost use mathlib.Core.Path.{_≡_};
 ghost use mathlib.Core.List.{List, []};
 ghost use Prim.Native.Nat.{ℕ, _≤_};
 ghost use lib.ListN.{length};
+ghost use Rattle.pages.specs.Layout.{imageWords, recordCount};
 ghost use Rattle.regions.specs.Positions.{stabs};
 ghost use Rattle.xrtree.specs.Tree.{Key};
 ghost use Rattle.holding.specs.Held.{Chain, KeyHeld};
@@ -70,7 +71,7 @@ fn record_behind(img: &[u32], head: u32, p: u32) -> u32
 
 // Lets the list go on with record n behind p; answers its head, which is n itself where p is 0.
 fn link(img: &mut [u32], head: u32, p: u32, n: u32) -> u32
-    requires { ⌜ (length (now img) ≡ 12288) × (p ≤ 500) ⌝ }
+    requires { ⌜ (length (now img) ≡ imageWords) × (p ≤ recordCount) ⌝ }
     ensures { λ r. ⌜ (r ≡ linkedHead head p n) × (now (img .exit) ≡ linkedWords (now (img .entry)) p n) ⌝ }
 {
     if p == 0 {
@@ -103,7 +104,7 @@ fn renewed(img: &[u32], k: KeyWords, head: u32) -> KeyWords
 
 // A region in front of the list, as a leaf split finds them: from the last to the first.
 pub fn push(img: &mut [u32], k: KeyWords, r: Region) -> KeyWords
-    requires { ⌜ (length (now img) ≡ 12288) × Room (now img) × (1 ≤ r .end) ⌝ }
+    requires { ⌜ (length (now img) ≡ imageWords) × Room (now img) × (1 ≤ r .end) ⌝ }
     ensures { λ t. ⌜ ((key : Key) → KeyHeld (now (img .entry)) k key → AllUsed (now (img .entry)) (key .places) → Came (now (img .entry)) (now (img .exit)) [] (pushedKey key r) t) ⌝ }
 {
     let q = store::first_free_record(img);
@@ -113,7 +114,7 @@ pub fn push(img: &mut [u32], k: KeyWords, r: Region) -> KeyWords
 
 // A region into its place by start, as a save does.
 pub fn enter(img: &mut [u32], k: KeyWords, r: Region) -> KeyWords
-    requires { ⌜ (length (now img) ≡ 12288) × Room (now img) × (1 ≤ r .end) × Ends (now img) (k .head) ⌝ }
+    requires { ⌜ (length (now img) ≡ imageWords) × Room (now img) × (1 ≤ r .end) × Ends (now img) (k .head) ⌝ }
     ensures { λ t. ⌜ ((key : Key) → KeyHeld (now (img .entry)) k key → AllUsed (now (img .entry)) (key .places) → Came (now (img .entry)) (now (img .exit)) (key .places) (enteredKey key r) t) ⌝ }
 {
     let p = last_before(img, k.head, r.start);
@@ -126,7 +127,7 @@ pub fn enter(img: &mut [u32], k: KeyWords, r: Region) -> KeyWords
 
 // The region with that start out of the list, as a delete does; its record is free again.
 pub fn leave(img: &mut [u32], k: KeyWords, start: u32) -> KeyWords
-    requires { ⌜ (length (now img) ≡ 12288) × Ends (now img) (k .head) ⌝ }
+    requires { ⌜ (length (now img) ≡ imageWords) × Ends (now img) (k .head) ⌝ }
     ensures { λ t. ⌜ ((key : Key) → KeyHeld (now (img .entry)) k key → AllUsed (now (img .entry)) (key .places) → Went (now (img .entry)) (now (img .exit)) key start t) ⌝ }
 {
     let p = last_before(img, k.head, start);
@@ -142,7 +143,7 @@ pub fn leave(img: &mut [u32], k: KeyWords, start: u32) -> KeyWords
 
 // The beginning of one key's list that x stabs goes in front of another's: one record's next word changes, or none.
 pub fn lift(img: &mut [u32], from: KeyWords, to: KeyWords, x: u32) -> Lifted
-    requires { ⌜ (length (now img) ≡ 12288) × Ends (now img) (from .head) ⌝ }
+    requires { ⌜ (length (now img) ≡ imageWords) × Ends (now img) (from .head) ⌝ }
     ensures { λ t. ⌜ ((a b : Key) → KeyHeld (now (img .entry)) from a → KeyHeld (now (img .entry)) to b → Apart (a .places) (b .places) → Lifts (now (img .entry)) (now (img .exit)) a b x t) ⌝ }
 {
     let p = last_stabbed(img, from.head, x);
@@ -158,7 +159,7 @@ pub fn lift(img: &mut [u32], from: KeyWords, to: KeyWords, x: u32) -> Lifted
 
 // Gives all records of a list back, as a leaf merge does with what is left of its key's list.
 pub fn drop_list(img: &mut [u32], head: u32)
-    requires { ⌜ (length (now img) ≡ 12288) × Ends (now img) head ⌝ }
+    requires { ⌜ (length (now img) ≡ imageWords) × Ends (now img) head ⌝ }
     ensures { λ _. ⌜ ((qs : List ℕ) → Chain (now (img .entry)) head qs → AllUsed (now (img .entry)) qs → Dropped (now (img .entry)) (now (img .exit)) qs) ⌝ }
 {
     let mut q = head;

@@ -3,6 +3,7 @@ ghost use mathlib.Core.Path.{_≡_};
 ghost use Prim.Native.Nat.{_≤_, _<_};
 ghost use lib.Dec.{T, leb};
 ghost use lib.ListN.{getD};
+ghost use Rattle.regions.specs.Limits.{accountCount};
 ghost use Rattle.regions.specs.Sets.{heldAt, shareOf, heldBy, crossed};
 ghost use Rattle.regions.specs.Calls.{saveNo, deleteNo};
 ghost use Rattle.image.specs.Read.{setOf};
@@ -14,14 +15,14 @@ fn is_held(img: &[u32], start: u32) -> bool
     requires { ⌜ T (valid (now img)) ⌝ }
     ensures { λ r. ⌜ r ≡ heldAt start (setOf (now (img .entry))) ⌝ }
 {
-    let found = touch::region_at(img, start);
-    touch::is_found(found)
+    let found = clashes::region_at(img, start);
+    clashes::is_found(found)
 }
 
 // Whether an account holds as many regions as its share. They have been counted.
-fn is_full(img: &[u32], account: u32, held: [u32; 16]) -> bool
+fn is_full(img: &[u32], account: u32, held: [u32; regions::ACCOUNT_COUNT]) -> bool
     requires { ⌜ T (valid (now img)) ⌝ }
-    requires { ⌜ (account < 16) × (getD held account 0 ≡ heldBy account (setOf (now img))) ⌝ }
+    requires { ⌜ (account < accountCount) × (getD held account 0 ≡ heldBy account (setOf (now img))) ⌝ }
     ensures { λ r. ⌜ r ≡ leb (shareOf account (setOf (now (img .entry)))) (heldBy account (setOf (now (img .entry)))) ⌝ }
 {
     let a = words::wide(account);
@@ -30,25 +31,25 @@ fn is_full(img: &[u32], account: u32, held: [u32; 16]) -> bool
 }
 
 // Of a save; the account's held regions have been counted.
-pub fn save_number(img: &[u32], account: u32, r: Region, held: [u32; 16]) -> u32
+pub fn save_number(img: &[u32], account: u32, r: Region, held: [u32; regions::ACCOUNT_COUNT]) -> u32
     requires { ⌜ T (valid (now img)) ⌝ }
-    requires { ⌜ (account < 16 → getD held account 0 ≡ heldBy account (setOf (now img))) ⌝ }
+    requires { ⌜ (account < accountCount → getD held account 0 ≡ heldBy account (setOf (now img))) ⌝ }
     ensures { λ n. ⌜ n ≡ saveNo (setOf (now (img .entry))) account r ⌝ }
 {
     if !regions::well_formed(r) {
-        return 2;
+        return regions::REGION;
     }
     if regions::foreign(account, r.start) {
-        return 3;
+        return regions::ACCOUNT;
     }
     if is_held(img, r.start) {
-        return 4;
+        return regions::HELD;
     }
-    if touch::crosses_held(img, r) {
-        return 5;
+    if clashes::crosses_held(img, r) {
+        return regions::CROSS;
     }
     if is_full(img, account, held) {
-        return 6;
+        return regions::SHARE;
     }
     0
 }
@@ -58,10 +59,10 @@ pub fn delete_number(img: &[u32], account: u32, start: u32) -> u32
     ensures { λ n. ⌜ n ≡ deleteNo (setOf (now (img .entry))) account start ⌝ }
 {
     if regions::foreign(account, start) {
-        return 3;
+        return regions::ACCOUNT;
     }
     if !is_held(img, start) {
-        return 7;
+        return regions::ABSENT;
     }
     0
 }

@@ -3,7 +3,7 @@
 use Prim.Native.Nat.{ℕ, zero, suc, _+_, _<_}
 use mathlib.Core.Path.{_≡_, refl, sym, ap, _∙_}
 use mathlib.Core.Logic.{_⊎_, inl, inr}
-use mathlib.Core.Bool.{Bool, true, false, not, _||_, false≢true}
+use mathlib.Core.Bool.{Bool, true, false, not, _||_}
 use mathlib.Core.List.{List, [], _∷_, _++_}
 use lib.Dec.{T, ltb, eqb}
 use lib.ListN.{length, drop}
@@ -41,11 +41,6 @@ false-so e h m = no-T h (e .so-yes m)
 pub so-false : {b : Bool} {M : Type 0} → Says b M → (M → ⊥) → b ≡ false
 so-false {b} e n = off-T b (λ t. n (e .yes-so t))
 
--- a run of tests: its first test holds, or fails
-pub first-yes : (b : Bool) (n : ℕ) (ts : List (Bool × ℕ)) → b ≡ true → firstNo ((b, n) ∷ ts) ≡ n
-unfolding firstNo
-first-yes b n ts h = rw h
-
 pub first-no : (b : Bool) (n : ℕ) (ts : List (Bool × ℕ)) → b ≡ false → firstNo ((b, n) ∷ ts) ≡ firstNo ts
 unfolding firstNo
 first-no b n ts h = rw h
@@ -58,15 +53,6 @@ pub lt-same : (a b c d : ℕ) → (a < b → c < d) → (c < d → a < b) → lt
 lt-same a b c d f g = says-same (lt-says a b) (says-iff (lt-says c d) g f)
 
 module _ {A : Type 0} where
-  -- where something passes, the list splits at the first that does
-  pub some-split : (p : A → Bool) (xs : List A) → some (filter p xs) ≡ true
-      → (us : List A) × (x : A) × (vs : List A) × (xs ≡ us ++ x ∷ vs) × (p x ≡ true) × All (λ u. p u ≡ false) us
-  unfolding filter some
-  some-split p [] h = absurd (false≢true h)
-  some-split p (x ∷ xs) h =
-      by-test (p x) (λ e. ([], x, xs, refl, e, tt))
-      (λ e. let r = some-split p xs (rw e at h) in (x ∷ r .0, r .1, r .2, ap (x ∷_) (r .3), r .4, (e, r .5)))
-
   -- what passes and what does not are the whole
   pub length-parts : (p : A → Bool) (xs : List A) → length (filter p xs) + length (filter (λ x. not (p x)) xs) ≡ length xs
   unfolding filter

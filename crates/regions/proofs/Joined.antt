@@ -3,7 +3,7 @@
 use Prim.Native.Nat.{ℕ, suc, _<_}
 use mathlib.Core.Path.{_≡_, refl, sym, ap, ap₂, _∙_, subst}
 use mathlib.Core.Logic.{_⊎_, inl, inr}
-use mathlib.Core.Bool.{true, false, not}
+use mathlib.Core.Bool.{true, false}
 use mathlib.Core.List.{List, [], _∷_, _++_, map, flatMap, append-nil, append-assoc}
 use lib.ListN.{take, drop, take-append-drop}
 use native.Mathlib.Omega.{arith}
@@ -16,7 +16,7 @@ use Rattle.regions.specs.declared.Kind.{Kind}
 use Rattle.regions.specs.declared.Kind.the-variants.{Ancestor, Parent}
 use Rattle.regions.specs.declared.Mark.{Mark}
 use Rattle.regions.specs.declared.Mark.the-variants.{Fresh, Last}
-use Rattle.regions.specs.Positions.{account, holds, isAbove}
+use Rattle.regions.specs.Positions.{holds, isAbove}
 use Rattle.regions.specs.Sets.{Set, of}
 use Rattle.regions.specs.Calls.{Pair, pairsWith, pairOf, pairsOf, joined}
 use Rattle.regions.specs.Desk.{later, isPast, past, markBehind, markFits}

@@ -55,10 +55,6 @@ inside-account s e x hb h =
 pub at-account : (s : ℕ) (x : Region) → isAt s x ≡ true → of (account s) x ≡ true
 at-account s x h = so-true (of-says (account s) x) (ap account (true-so (at-says s x) h))
 
--- regions of two accounts never cross
-pub accounts-nest : (r x : Region) → Wf r → Wf x → (account (r .start) ≡ account (x .start) → ⊥) → crosses r x ≡ false
-accounts-nest r x hr hx n = so-false (crosses-says r x) (λ c. n (sym (true-so (of-says (account (r .start)) x) (crosses-account r x hr hx (so-true (crosses-says r x) c)))))
-
 -- WHAT A CALL IS TOLD
 pub held-local : (S : Set) (s : ℕ) → heldAt s S ≡ heldAt s (only (account s) S)
 held-local S s = ap some (filter-within (isAt s) (of (account s)) (S .regions) (all-every (λ x. at-account s x) (S .regions)))

@@ -10,7 +10,7 @@ use native.Mathlib.Decide.{decLe, ℕ-discrete}
 use Rattle.words.specs.Lists.{filter}
 use Rattle.words.proofs.Says.{Says, says-iff, says-same, and-says, eq-says, lt-says, le-says}
 use Rattle.regions.specs.declared.Region.{Region}
-use Rattle.regions.specs.Positions.{document, account, wellBound, wellFormed, endsBefore, contains, nested, crosses, stabs, holds, inside, isAbove, isBelow}
+use Rattle.regions.specs.Positions.{document, account, wellBound, wellFormed, endsBefore, contains, nested, crosses, holds, inside, isAbove, isBelow}
 use Rattle.regions.specs.Sets.{of, isAt, startsBefore, startsBehind, startsFrom}
 use Rattle.regions.specs.Calls.{foreign}
 use Rattle.regions.proofs.Extra.{or-says, not-says}
@@ -50,10 +50,6 @@ formed-says r =
     says-iff (and-says (bound-says (r .start) (r .end)) (and-says (le-says 1 (r .level)) (le-says (r .level) 255)))
     (λ m. record { order = m .0 .0; in-one = m .0 .1; low = m .1 .0; high = m .1 .1 })
     (λ f. ((f .order, f .in-one), (f .low, f .high)))
-
-pub stabs-says : (k : ℕ) (r : Region) → Says (stabs k r) ((r .start ≤ k) × (k ≤ r .end))
-unfolding stabs
-stabs-says k r = and-says (le-says (r .start) k) (le-says k (r .end))
 
 pub holds-says : (p : ℕ) (r : Region) → Says (holds p r) ((r .start < p) × (p < r .end))
 unfolding holds

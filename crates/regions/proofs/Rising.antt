@@ -3,7 +3,7 @@
 use Prim.Native.Nat.{ℕ, suc, _+_, _<_, _≤_}
 use mathlib.Core.Path.{_≡_, refl, sym, ap, ap₂, _∙_, subst}
 use mathlib.Core.Bool.{true, false, not, cond, false≢true}
-use mathlib.Core.List.{List, [], _∷_, _++_, append-nil}
+use mathlib.Core.List.{List, [], _∷_, _++_}
 use lib.Dec.{T}
 use lib.ListN.{length, getD, length-append}
 use native.Mathlib.Omega.{arith}
@@ -14,9 +14,9 @@ use Rattle.words.proofs.Listed.{all-mono, all-every, all-two, all-append, all-k
 use Rattle.words.proofs.Says.{Says, says-same, says-iff, pairs-say}
 use Rattle.regions.specs.declared.Region.{Region}
 use Rattle.regions.specs.Positions.{account, nested, crosses}
-use Rattle.regions.specs.Sets.{Set, emptySet, of, only, heldBy, shareOf, isAt, heldAt, crossed, startsBefore, startsBehind, startsFrom, saved, isNotAt, deleted}
+use Rattle.regions.specs.Sets.{Set, emptySet, of, heldBy, shareOf, isAt, heldAt, crossed, startsBefore, startsBehind, startsFrom, saved, isNotAt, deleted}
 use Rattle.regions.specs.Calls.{saveNo, deleteNo}
-use Rattle.regions.proofs.Extra.{true-so, so-true, false-so, so-false, not-says, some-split, length-parts}
+use Rattle.regions.proofs.Extra.{true-so, so-true, false-so, so-false, not-says, length-parts}
 use Rattle.regions.proofs.Means.{at-says, before-says, behind-says, from-says, of-says, nested-comm}
 use Rattle.regions.specs.Sound.{Wf, Rising, Nesting, Sound}
 use Rattle.regions.proofs.Local.{held-local, saved-of, saved-other, deleted-other}
@@ -78,18 +78,6 @@ pub free-sides : (s : ℕ) (S : Set) → Rising (S .regions) → heldAt s S ≡ 
 free-sides s S h e = sides s (S .regions) h ∙ filter-all (isNotAt s) (S .regions) (free-all s S e)
 
 -- WHERE A SAVED REGION COMES TO STAND, and what a delete leaves
-pub saved-splits : (S : Set) (r : Region) (us vs : List Region) → S .regions ≡ us ++ vs
-    → All (λ x. x .start < r .start) us → All (λ x. r .start < x .start) vs → saved r S .regions ≡ us ++ r ∷ vs
-unfolding saved
-saved-splits S r us vs e hu hv =
-    ap₂ (λ xs ys. xs ++ r ∷ ys)
-    (ap (filter (startsBefore (r .start))) e ∙ filter-append (startsBefore (r .start)) us vs
-    ∙ ap₂ _++_ (filter-all (startsBefore (r .start)) us (all-mono {Q = λ x. startsBefore (r .start) x ≡ true} (λ x l. so-true (before-says (r .start) x) l) us hu))
-    (filter-none (startsBefore (r .start)) vs (all-mono {Q = λ x. startsBefore (r .start) x ≡ false} (λ x l. so-false (before-says (r .start) x) (λ k. omega arith)) vs hv))
-    ∙ append-nil us)
-    (ap (filter (startsBehind (r .start))) e ∙ filter-append (startsBehind (r .start)) us vs
-    ∙ ap₂ _++_ (filter-none (startsBehind (r .start)) us (all-mono {Q = λ x. startsBehind (r .start) x ≡ false} (λ x l. so-false (behind-says (r .start) x) (λ k. omega arith)) us hu))
-    (filter-all (startsBehind (r .start)) vs (all-mono {Q = λ x. startsBehind (r .start) x ≡ true} (λ x l. so-true (behind-says (r .start) x) l) vs hv)))
 
 pub deleted-splits : (S : Set) (r : Region) (us vs : List Region) → Rising (S .regions) → S .regions ≡ us ++ r ∷ vs → deleted (r .start) S .regions ≡ us ++ vs
 unfolding deleted
@@ -104,10 +92,6 @@ deleted-splits S r us vs h e =
   where
     off : (x : Region) → (x .start ≡ r .start → ⊥) → isNotAt (r .start) x ≡ true
     off x n = ap not (so-false (at-says (r .start) x) n)
-
--- the region at a start that is held, with what stands around it
-pub held-splits : (S : Set) (s : ℕ) → heldAt s S ≡ true → (us : List Region) × (r : Region) × (vs : List Region) × (S .regions ≡ us ++ r ∷ vs) × (r .start ≡ s)
-held-splits S s h = let f = some-split (isAt s) (S .regions) h in (f .0, f .1, f .2, f .3, true-so (at-says s (f .1)) (f .4))
 
 -- WHAT THEY KEEP
 put-in : (R : Region → Region → Type 0) (S : Set) (r : Region) → Rising (S .regions) → Pairs R (S .regions)

@@ -1,12 +1,13 @@
 -- Document 01, "Calls", of sets: each call's number, by its tests in their order (IMAGE, the image's own, comes before these), and what it lists.
 -- Assumes nothing.
-use Prim.Native.Nat.{ℕ, _+_, _*_, _/_}
-use mathlib.Core.Bool.{Bool, true, false, not, _&&_, _||_}
-use mathlib.Core.List.{List, [], _∷_, _++_, map, flatMap}
+use Prim.Native.Nat.{ℕ, _/_}
+use mathlib.Core.Bool.{Bool, not, _&&_, _||_}
+use mathlib.Core.List.{List, [], _∷_, map, flatMap}
 use lib.Dec.{leb, ltb, eqb}
-use lib.ListN.{length, take, drop, getD}
+use lib.ListN.{length, take, drop}
 use lib.Seq.{sets}
 use Rattle.words.specs.Lists.{filter, some, lastOr, firstNo, sum}
+use Rattle.regions.specs.Limits.{lastAccount, mostRegions}
 use Rattle.regions.specs.Positions.{account, wellBound, wellFormed, holds, inside, isAbove, isBelow}
 use Rattle.regions.specs.Sets.{Set, of, heldBy, shareOf, heldAt, crossed, startsBehind}
 use Rattle.regions.specs.Numbers.{REGION, ACCOUNT, HELD, CROSS, SHARE, ABSENT, SHARES}
@@ -29,19 +30,16 @@ unfoldable pub moreRemain : {X : Type 0} → ℕ → List ℕ → List X → Boo
 moreRemain width out xs = some (drop (room width out) xs)
 
 -- a region in words
-abbrev pub regionWidth : ℕ
-regionWidth = 4
-
 abbrev pub regionWords : Region → List ℕ
 regionWords r = r .start ∷ r .end ∷ r .level ∷ r .reference ∷ []
 
 -- account above 15, or a position of another account
 unfoldable pub foreign : ℕ → ℕ → Bool
-foreign a p = ltb 15 a || not (eqb (account p) a)
+foreign a p = ltb lastAccount a || not (eqb (account p) a)
 
 -- OPENING A SET
 unfoldable pub openSetNo : List ℕ → ℕ
-openSetNo shares = firstNo ((ltb 500 (sum shares), SHARES) ∷ [])
+openSetNo shares = firstNo ((ltb mostRegions (sum shares), SHARES) ∷ [])
 
 -- SAVE and DELETE
 unfoldable pub saveNo : Set → ℕ → Region → ℕ
@@ -103,11 +101,8 @@ unfoldable pub joined : Set → Set → ℕ → Kind → List Pair
 joined X Y a k = flatMap (pairsOf k (filter (of a) (X .regions))) (filter (of a) (Y .regions))
 
 unfoldable pub joinNo : ℕ → ℕ
-joinNo a = firstNo ((ltb 15 a, ACCOUNT) ∷ [])
+joinNo a = firstNo ((ltb lastAccount a, ACCOUNT) ∷ [])
 
 -- a pair in words
-abbrev pub pairWidth : ℕ
-pairWidth = 4
-
 abbrev pub pairWords : Pair → List ℕ
 pairWords q = q .a .start ∷ q .a .reference ∷ q .d .start ∷ q .d .reference ∷ []

@@ -1,12 +1,13 @@
 -- Document 01, "Calls", of the desk: marks, seats, the round over eight seats and the buffer's words, a part.
 -- Assumes nothing.
-use Prim.Native.Nat.{ℕ, suc, _+_, _*_}
+use Prim.Native.Nat.{ℕ, suc, _*_}
 use mathlib.Core.Bool.{Bool, true, false, not, _&&_, _||_, cond}
 use mathlib.Core.List.{List, [], _∷_, map, flatMap}
 use lib.Dec.{leb, ltb, eqb}
-use lib.ListN.{length, take, drop, getD, set}
+use lib.ListN.{length, take, drop, getD}
 use lib.Seq.{sets}
 use Rattle.words.specs.Lists.{filter, all, lastOr, firstNo}
+use Rattle.regions.specs.Limits.{bufferWords, houseLimit, lastAccount, lastSeat, mostARound, seatCount, seatWidth}
 use Rattle.regions.specs.Positions.{account}
 use Rattle.regions.specs.Sets.{Set}
 use Rattle.regions.specs.Numbers.{ACCOUNT, SEAT, LIMIT, DESK, unless}
@@ -43,9 +44,6 @@ closed = record { state = Closed }
 abbrev pub openAt : Open → Seat
 openAt o = record { state = Opened o }
 
-abbrev pub houseLimit : ℕ
-houseLimit = 32
-
 abbrev pub limitAsked : ℕ → ℕ
 limitAsked l = cond (eqb l 0) houseLimit l
 
@@ -60,17 +58,17 @@ markFits a (Last x y) = eqb (account x) a && eqb (account y) a
 
 unfoldable pub stateFits : State → Bool
 stateFits Closed = true
-stateFits (Opened o) = (leb (o .account) 15 && (leb 1 (o .limit) && leb (o .limit) 32)) && markFits (o .account) (o .mark)
+stateFits (Opened o) = (leb (o .account) lastAccount && (leb 1 (o .limit) && leb (o .limit) mostARound)) && markFits (o .account) (o .mark)
 
 abbrev pub seatFits : Seat → Bool
 seatFits s = stateFits (s .state)
 
 -- eight seats, and none breaks its ranges; 1,024 words
 unfoldable pub deskFits : List Seat → Bool
-deskFits desk = eqb (length desk) 8 && all seatFits desk
+deskFits desk = eqb (length desk) seatCount && all seatFits desk
 
 unfoldable pub bufferFits : List ℕ → Bool
-bufferFits buffer = eqb (length buffer) 1024
+bufferFits buffer = eqb (length buffer) bufferWords
 
 unfoldable pub stateOpen : State → Bool
 stateOpen Closed = false
@@ -91,14 +89,14 @@ seatAt desk i = getD desk i closed
 
 -- OPENING THE DESK, OPENING AND CLOSING A SEAT, in the order DESK, SEAT, ACCOUNT, LIMIT
 unfoldable pub openDeskNo : List Seat → ℕ
-openDeskNo desk = firstNo ((not (eqb (length desk) 8), DESK) ∷ [])
+openDeskNo desk = firstNo ((not (eqb (length desk) seatCount), DESK) ∷ [])
 
 unfoldable pub openSeatNo : List Seat → ℕ → ℕ → ℕ → ℕ
 openSeatNo desk i a l =
-    firstNo ((not (deskFits desk), DESK) ∷ (ltb 7 i || isOpen (seatAt desk i), SEAT) ∷ (ltb 15 a, ACCOUNT) ∷ (ltb 32 l, LIMIT) ∷ [])
+    firstNo ((not (deskFits desk), DESK) ∷ (ltb lastSeat i || isOpen (seatAt desk i), SEAT) ∷ (ltb lastAccount a, ACCOUNT) ∷ (ltb mostARound l, LIMIT) ∷ [])
 
 unfoldable pub closeSeatNo : List Seat → ℕ → ℕ
-closeSeatNo desk i = firstNo ((not (deskFits desk), DESK) ∷ (ltb 7 i || not (isOpen (seatAt desk i)), SEAT) ∷ [])
+closeSeatNo desk i = firstNo ((not (deskFits desk), DESK) ∷ (ltb lastSeat i || not (isOpen (seatAt desk i)), SEAT) ∷ [])
 
 -- A SEAT'S TURN: the next pairs past its mark, as many as its limit; the seat afterwards; the count told
 unfoldable pub stateHanded : Set → Set → State → List Pair
@@ -124,7 +122,7 @@ countHanded X Y s = length (handed X Y s)
 
 -- THE ROUND: seat after seat, seat i from word 128 i on; words past those handed stay
 abbrev pub seatWord : ℕ → ℕ
-seatWord i = 128 * i
+seatWord i = seatWidth * i
 
 unfoldable pub poured : {X : Type 0} → (Seat → List X) → ℕ → List Seat → List X → List X
 poured words i [] buffer = buffer
@@ -144,7 +142,7 @@ unfoldable pub partNo : List Seat → List ℕ → ℕ → ℕ → ℕ
 partNo desk buffer i n =
     firstNo
     ((not (deskFits desk && bufferFits buffer), DESK) ∷
-    (ltb 7 i || not (isOpen (seatAt desk i)), SEAT) ∷
+    (ltb lastSeat i || not (isOpen (seatAt desk i)), SEAT) ∷
     (ltb (limitOf (seatAt desk i)) n, LIMIT) ∷
     [])
 

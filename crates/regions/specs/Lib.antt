@@ -1,3 +1,4 @@
+pub mod Limits
 pub mod Positions
 pub mod Sets
 pub mod Numbers

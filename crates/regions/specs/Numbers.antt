@@ -1,7 +1,7 @@
 -- Document 01, "Refusals by number": the table's names, and how a call comes to its number.
 -- Assumes nothing.
 use Prim.Native.Nat.{ℕ}
-use mathlib.Core.Bool.{Bool, true, false, cond}
+use mathlib.Core.Bool.{Bool, cond}
 use lib.Dec.{eqb}
 
 abbrev pub DONE : ℕ

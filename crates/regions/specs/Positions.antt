@@ -1,16 +1,17 @@
 -- Document 01, "Positions, regions, accounts".
 -- Assumes nothing.
 use Prim.Native.Nat.{ℕ, _+_, _/_}
-use mathlib.Core.Bool.{Bool, true, false, not, _&&_, _||_}
+use mathlib.Core.Bool.{Bool, not, _&&_, _||_}
 use lib.Dec.{leb, ltb, eqb}
+use Rattle.regions.specs.Limits.{accountPositions, documentPositions, lastLevel}
 use Rattle.regions.specs.declared.Region.{Region}
 
 -- a position's document, and its account
 abbrev pub document : ℕ → ℕ
-document p = p / 65536
+document p = p / documentPositions
 
 abbrev pub account : ℕ → ℕ
-account p = p / 268435456
+account p = p / accountPositions
 
 -- the bounds of a search: they ascend and stay within a document
 unfoldable pub wellBound : ℕ → ℕ → Bool
@@ -18,7 +19,7 @@ wellBound s e = ltb s e && eqb (document s) (document e)
 
 -- a region: its two positions are such bounds, and it has a level from 1 to 255; of its reference nothing is asked
 unfoldable pub wellFormed : Region → Bool
-wellFormed r = wellBound (r .start) (r .end) && (leb 1 (r .level) && leb (r .level) 255)
+wellFormed r = wellBound (r .start) (r .end) && (leb 1 (r .level) && leb (r .level) lastLevel)
 
 -- x ends before y starts; x starts before y and ends behind it
 unfoldable pub endsBefore : Region → Region → Bool

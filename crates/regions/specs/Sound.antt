@@ -5,6 +5,7 @@ use mathlib.Core.Path.{_≡_}
 use mathlib.Core.Bool.{true}
 use mathlib.Core.List.{List}
 use Rattle.words.specs.Lists.{All, Pairs, sum}
+use Rattle.regions.specs.Limits.{mostRegions}
 use Rattle.regions.specs.Positions.{wellFormed, nested}
 use Rattle.regions.specs.Sets.{Set, heldBy, shareOf}
 use Rattle.regions.specs.Calls.{Pair}
@@ -27,7 +28,7 @@ pub record Sound (S : Set) : Type 0 where
   pub rising : Rising (S .regions)
   pub nesting : Nesting (S .regions)
   pub within : (a : ℕ) → heldBy a S ≤ shareOf a S
-  pub shared : sum (S .shares) ≤ 500
+  pub shared : sum (S .shares) ≤ mostRegions
 
 -- THE JOIN'S ORDER: q comes later than p; each pair later than all before it
 abbrev pub Then : Pair → Pair → Type 0

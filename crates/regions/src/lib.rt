@@ -3,6 +3,65 @@ ghost use mathlib.Core.Path.{_≡_};
 ghost use Rattle.regions.specs.Positions.{document, account, wellBound, wellFormed, endsBefore, contains, nested, crosses, stabs, holds, inside, isAbove, isBelow};
 ghost use Rattle.regions.specs.Calls.{foreign};
 
+// REFUSALS, by their number (document 01's table). A call that is done answers DONE.
+pub const DONE: u32 = 0;
+
+pub const IMAGE: u32 = 1;
+
+pub const REGION: u32 = 2;
+
+pub const ACCOUNT: u32 = 3;
+
+pub const HELD: u32 = 4;
+
+pub const CROSS: u32 = 5;
+
+pub const SHARE: u32 = 6;
+
+pub const ABSENT: u32 = 7;
+
+pub const SHARES: u32 = 8;
+
+pub const SEAT: u32 = 9;
+
+pub const LIMIT: u32 = 10;
+
+pub const DESK: u32 = 11;
+
+pub const FORM: u32 = 12;
+
+// THE NUMBERS OF THE HOUSE, as specs/Limits has them. Accounts:
+pub const ACCOUNT_COUNT: usize = 16;
+
+pub const LAST_ACCOUNT: u32 = 15;
+// the positions of a document, and of an account,
+pub const DOCUMENT_POSITIONS: u32 = 65536;
+
+pub const ACCOUNT_POSITIONS: u32 = 268435456;
+
+pub const LAST_LEVEL: u32 = 255;
+// the regions of a set at most, which its shares may come to together,
+pub const MOST_REGIONS: u32 = 500;
+// seats, the limit of who asks for none, the most pairs a round,
+pub const SEAT_COUNT: usize = 8;
+
+pub const LAST_SEAT: u32 = 7;
+
+pub const HOUSE_LIMIT: u32 = 32;
+
+pub const MOST_A_ROUND: u32 = 32;
+// and what things take in words: a region, a pair, a seat's part of the round buffer, all of it.
+pub const REGION_WIDTH: usize = 4;
+
+pub const PAIR_WIDTH: usize = 4;
+
+pub const SEAT_WIDTH: usize = 128;
+
+pub const BUFFER_WORDS: usize = 1024;
+
+// A number for each account: shares, or regions held.
+pub type Shares = [u32; 16];
+
 // An element: where it starts and ends, its depth in its document, and the house's reference to it.
 pub struct Region {
     pub start: u32,
@@ -42,13 +101,13 @@ pub struct Seat {
 pub fn document_of(p: u32) -> u32
     ensures { λ r. ⌜ r ≡ document p ⌝ }
 {
-    p / 65536
+    p / DOCUMENT_POSITIONS
 }
 
 pub fn account_of(p: u32) -> u32
     ensures { λ r. ⌜ r ≡ account p ⌝ }
 {
-    p / 268435456
+    p / ACCOUNT_POSITIONS
 }
 
 pub fn well_bound(start: u32, end: u32) -> bool
@@ -69,7 +128,7 @@ pub fn well_formed(r: Region) -> bool
     if r.level < 1 {
         return false;
     }
-    r.level <= 255
+    r.level <= LAST_LEVEL
 }
 
 pub fn ends_before(x: Region, y: Region) -> bool
@@ -154,7 +213,7 @@ pub fn is_below(level: u32, r: Region) -> bool
 pub fn foreign(account: u32, p: u32) -> bool
     ensures { λ t. ⌜ t ≡ foreign account p ⌝ }
 {
-    if 15 < account {
+    if LAST_ACCOUNT < account {
         return true;
     }
     account_of(p) != account

@@ -7,10 +7,10 @@ use lib.ListN.{length, length-append}
 use native.Mathlib.Omega.{arith}
 use Rattle.pages.specs.Layout.{pageOf, fillOf, childIn}
 use Rattle.steps.specs.Steps.{size, KidsFilled, ChildAt, pageHere, Split, PairAt, Merged}
-use Rattle.growth.proofs.Fills.{of-filled, refocus, size-fill}
-use Rattle.growth.proofs.Becoming.{spares-none}
-use Rattle.growth.proofs.Spreading.{moved-most}
-use Rattle.growth.proofs.Mending.{Under, pairHere, mend-merge, thickRight, pairLeft, mend-lend-right, thickLeft, pairRight, mend-lend-left}
+use Rattle.room.proofs.Fills.{of-filled, refocus, size-fill}
+use Rattle.room.proofs.Becoming.{spares-none}
+use Rattle.room.proofs.Spreading.{moved-most}
+use Rattle.room.proofs.Mending.{Under, pairHere, mend-merge, thickRight, pairLeft, mend-lend-right, thickLeft, pairRight, mend-lend-left}
 use Rattle.remove.specs.Mends.{pairPage, Room, SplitAsk, MergeAsk, Couple, ThinLeft, ThinRight, PairMended}
 use Rattle.remove.proofs.Seen.{child-size}
 

@@ -6,8 +6,8 @@ use mathlib.Core.List.{List}
 use lib.ListN.{length}
 use native.Mathlib.Omega.{arith}
 use Rattle.steps.specs.Steps.{size, moved, ChildAt, pageHere, Split, PairAt, Merged}
-use Rattle.growth.proofs.Becoming.{split-records}
-use Rattle.growth.proofs.Records.{idle-long}
+use Rattle.room.proofs.Becoming.{split-records}
+use Rattle.room.proofs.Records.{idle-long}
 use Rattle.split.specs.Ready.{LeafReady, InnerReady}
 use Rattle.merge.specs.Moves.{LeavesFit, InnersFit}
 use Rattle.remove.specs.Mends.{Room, SplitAsk, MergeAsk}

@@ -1,6 +1,6 @@
 -- The delete as a whole: a valid image's tree without the region, mended, with its root put right, makes a valid image of the set without the region.
 -- Assumes nothing.
-use Prim.Native.Nat.{ℕ, zero, suc, _+_, _-_, _≤_}
+use Prim.Native.Nat.{ℕ, zero, suc, _-_, _≤_}
 use mathlib.Core.Path.{_≡_, refl, sym, ap, _∙_, subst}
 use mathlib.Core.Bool.{true}
 use mathlib.Core.List.{List, [], _∷_, _++_}
@@ -16,8 +16,8 @@ use Rattle.regions.proofs.Done.{delete-done}
 use Rattle.regions.proofs.Rising.{deleted-splits}
 use Rattle.xrtree.specs.Tree.{Tree, regions, pagePlaces}
 use Rattle.xrtree.specs.Rules.{filled, rule6}
-use Rattle.xrtree.proofs.Claims.{pageAt, Over}
-use Rattle.xrtree.proofs.Whole.Post.{atEnd}
+use Rattle.xrtree.specs.Claims.{pageAt, Over}
+use Rattle.xrtree.specs.Holes.Post.{atEnd}
 use Rattle.pages.specs.Layout.{rootOf, heightOf, sharesOf, pageOf, fillOf}
 use Rattle.image.specs.Read.{depthOf, treeOf, setOf}
 use Rattle.image.specs.Valid.{valid}
@@ -29,14 +29,14 @@ use Rattle.standing.proofs.Whole.{valid-stands, stands-valid, set-is}
 use Rattle.steps.specs.Steps.{size, KidsFilled}
 use Rattle.path.specs.Path.{pathFrom, pathOf, padded}
 use Rattle.path.proofs.Ways.{valid-sized}
-use Rattle.growth.specs.Ways.{Mended}
-use Rattle.growth.proofs.Pages.{few-thin}
-use Rattle.growth.proofs.Records.{room-whole}
-use Rattle.growth.proofs.Sets.{SetFacts, deleted-facts, facts-few, valid-set}
-use Rattle.growth.proofs.Fills.{to-root}
-use Rattle.growth.proofs.Mending.{shrunk-root}
-use Rattle.owner.specs.Whole.{Whole, RootIs, Shrank}
-use Rattle.owner.specs.Changed.{Leaving, Left}
+use Rattle.room.specs.Ways.{Mended}
+use Rattle.room.proofs.Pages.{few-thin}
+use Rattle.room.proofs.Records.{room-whole}
+use Rattle.room.proofs.Sets.{SetFacts, deleted-facts, facts-few, valid-set}
+use Rattle.room.proofs.Fills.{to-root}
+use Rattle.room.proofs.Mending.{shrunk-root}
+use Rattle.entries.specs.Whole.{Whole, RootIs, Shrank}
+use Rattle.entries.specs.Changed.{Leaving, Left}
 use Rattle.remove.specs.Mends.{MendAsk, Leads}
 use Rattle.split.proofs.Seen.{q-range}
 use Rattle.remove.proofs.Thinning.{ask-at, done-at}

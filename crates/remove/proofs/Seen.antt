@@ -7,8 +7,8 @@ use lib.ListN.{length}
 use native.Mathlib.Omega.{arith}
 use Rattle.regions.specs.declared.Region.{Region}
 use Rattle.xrtree.specs.Tree.{Key, Tree}
-use Rattle.xrtree.proofs.Whole.{Post, fillKids, fill}
-use Rattle.xrtree.proofs.Whole.Post.{atKey, atEnd}
+use Rattle.xrtree.specs.Holes.{Post, fillKids, fill}
+use Rattle.xrtree.specs.Holes.Post.{atKey, atEnd}
 use Rattle.pages.specs.Layout.{pageOf, fillOf, childIn}
 use Rattle.image.specs.Decode.{keysFrom}
 use Rattle.holding.specs.Held.{KeysHeld, Held, placeOf}
@@ -18,7 +18,7 @@ use Rattle.path.proofs.Ranks.{rank-none, rank-here, rank-on}
 use Rattle.steps.specs.Steps.{size, ChildAt}
 use Rattle.split.proofs.Seen.{child-is, child-stands}
 use Rattle.split.proofs.Flagging.{entries-long}
-use Rattle.growth.specs.Ways.{OnWay}
+use Rattle.room.specs.Ways.{OnWay}
 
 -- HOW MUCH A PAGE HOLDS
 pub fill-size : (w : List ℕ) (h : ℕ) (t : Tree h) → Held w h t → fillOf (pageOf w (placeOf h t)) ≡ size h t

@@ -8,16 +8,16 @@ use native.Mathlib.Omega.{arith}
 use Rattle.words.specs.Lists.{All}
 use Rattle.xrtree.specs.Tree.{Key, Leaf, Inner, Tree}
 use Rattle.xrtree.specs.Rules.{filledBelow, filled}
-use Rattle.xrtree.proofs.Whole.{Post}
-use Rattle.xrtree.proofs.Whole.Post.{atKey, atEnd}
+use Rattle.xrtree.specs.Holes.{Post}
+use Rattle.xrtree.specs.Holes.Post.{atKey, atEnd}
 use Rattle.holding.specs.Held.{EveryKid}
 use Rattle.steps.specs.Steps.{size, KidsFilled}
-use Rattle.growth.specs.Ways.{Filled, Behind, Ahead, KidsBut, Way, Below}
-use Rattle.growth.proofs.Fills.{kids-every, of-filled, of-root, of-root-leaf, to-root-leaf, every-fill, hole-but}
-use Rattle.owner.specs.Ways.{Greater}
-use Rattle.owner.specs.Changed.{SameKids, SamePost, WayStep, OneLess, Shrunk}
-use Rattle.owner.proofs.Alongs.{low-same, high-same}
-use Rattle.owner.proofs.Fills.{along-long}
+use Rattle.room.specs.Ways.{Filled, Behind, Ahead, KidsBut, Way, Below}
+use Rattle.room.proofs.Fills.{kids-every, of-filled, of-root, of-root-leaf, to-root-leaf, every-fill, hole-but}
+use Rattle.entries.specs.Ways.{Greater}
+use Rattle.entries.specs.Changed.{SameKids, SamePost, WayStep, OneLess, Shrunk}
+use Rattle.entries.proofs.Alongs.{low-same, high-same}
+use Rattle.entries.proofs.Fills.{along-long}
 
 module _ {A : Type 0} where
   -- the children off the way are the same

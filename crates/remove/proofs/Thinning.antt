@@ -1,25 +1,23 @@
 -- Mending below a page, and at it: what is asked of the child on x's way, what of the page when that is done, and that both together mend it.
 -- Assumes nothing.
-use Prim.Native.Nat.{ℕ, suc, _≤_, _<_}
+use Prim.Native.Nat.{ℕ, suc, _≤_}
 use mathlib.Core.Path.{_≡_, refl, sym, ap, _∙_, subst}
 use mathlib.Core.List.{List}
 use lib.ListN.{length}
 use native.Mathlib.Omega.{arith}
 use Rattle.regions.specs.declared.Region.{Region}
 use Rattle.xrtree.specs.Tree.{Key, Inner, Tree}
-use Rattle.xrtree.proofs.Claims.{pageAt}
-use Rattle.xrtree.proofs.Splice.{loAfter}
-use Rattle.xrtree.proofs.Whole.{Post, fill, hiPost}
-use Rattle.pages.specs.Layout.{pageOf, fillOf, childIn}
+use Rattle.xrtree.specs.Claims.{pageAt}
+use Rattle.xrtree.specs.Holes.{loAfter, Post, fill, hiPost}
+use Rattle.pages.specs.Layout.{pageOf, childIn}
 use Rattle.standing.specs.Stands.{Around, Stands}
 use Rattle.path.specs.Path.{rankIn}
-use Rattle.path.proofs.Ranks.{rank-small}
 use Rattle.steps.specs.Steps.{size}
 use Rattle.split.proofs.Seen.{child-is}
-use Rattle.growth.specs.Ways.{Filled, Others, OnWay, KidsBut, Way, Mended, Thinned}
-use Rattle.growth.proofs.Fills.{way-in, but-hole}
-use Rattle.growth.proofs.Becoming.{becomes-both, beside, stands-child, room-child}
-use Rattle.growth.proofs.Mending.{Under, thinned-page, thinned-under, thin-below, thin-room}
+use Rattle.room.specs.Ways.{Filled, Others, OnWay, KidsBut, Way, Mended, Thinned}
+use Rattle.room.proofs.Fills.{way-in, but-hole}
+use Rattle.room.proofs.Becoming.{becomes-both, beside, stands-child, room-child}
+use Rattle.room.proofs.Mending.{Under, thinned-page, thinned-under, thin-below, thin-room}
 use Rattle.remove.specs.Mends.{Room, Thin, MendAsk, Leads}
 use Rattle.remove.proofs.Seen.{rank-is}
 
@@ -64,12 +62,6 @@ open-page {w} {q} {x} {h} s =
       some = subst (λ (z : Inner (Tree h)). 1 ≤ length (z .kids)) e (s .some);
       room = subst (λ z. Room (s .rs) h (s .lo) (s .hi) z (s .o)) e (s .room);
     }
-
-pub ask-few : {w : List ℕ} {q x h : ℕ} → MendAsk w q x h → fillOf (pageOf w q) ≤ 8
-ask-few s = let o = open-page s in omega (arith, o .stands .held .0 .fill-is, o .room .few)
-
-pub ask-index : {w : List ℕ} {q x h : ℕ} → MendAsk w q x h → (i : ℕ) → i ≡ rankIn (pageOf w q) x → i < 10
-ask-index {w} {q} {x} s i e = rank-small (pageOf w q) x i e (ask-few s)
 
 -- ABOVE LEAVES
 module _ {w : List ℕ} {q x : ℕ} (s : MendAsk w q x 0) where

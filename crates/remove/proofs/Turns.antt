@@ -6,16 +6,16 @@ use mathlib.Core.List.{List, [], _∷_}
 use lib.ListN.{length, length-append}
 use native.Mathlib.Omega.{arith}
 use Rattle.xrtree.specs.Tree.{Tree}
-use Rattle.xrtree.proofs.Whole.{Post, fill}
-use Rattle.xrtree.proofs.Whole.Post.{atKey, atEnd}
+use Rattle.xrtree.specs.Holes.{Post, fill}
+use Rattle.xrtree.specs.Holes.Post.{atKey, atEnd}
 use Rattle.pages.specs.Layout.{pageOf, fillOf, childIn}
 use Rattle.standing.specs.Stands.{Stands}
 use Rattle.path.specs.Path.{rankIn}
 use Rattle.steps.specs.Steps.{size}
-use Rattle.growth.specs.Ways.{Filled, Others, keysBehind, Mended}
-use Rattle.growth.proofs.Fills.{size-fill}
-use Rattle.growth.proofs.Becoming.{spares-none}
-use Rattle.growth.proofs.Mending.{Under, mend-kept, nextKid, nextPost, right-page, right-others, last-one, left-others}
+use Rattle.room.specs.Ways.{Filled, Others, keysBehind, Mended}
+use Rattle.room.proofs.Fills.{size-fill}
+use Rattle.room.proofs.Becoming.{spares-none}
+use Rattle.room.proofs.Mending.{Under, mend-kept, nextKid, nextPost, right-page, right-others, last-one, left-others}
 use Rattle.remove.specs.Mends.{Room, ThinLeft, ThinRight, PairMended, Thin}
 use Rattle.remove.proofs.Seen.{child-size, rank-is}
 

@@ -7,12 +7,12 @@ use lib.ListN.{getD}
 use Rattle.words.specs.Lists.{Pairs}
 use Rattle.regions.specs.declared.Region.{Region}
 use Rattle.xrtree.specs.Tree.{Key, Inner, Tree}
-use Rattle.xrtree.proofs.Claims.{Over}
-use Rattle.xrtree.proofs.Whole.{Post, fill}
+use Rattle.xrtree.specs.Claims.{Over}
+use Rattle.xrtree.specs.Holes.{Post, fill}
 use Rattle.standing.specs.Stands.{Around, Stands}
 use Rattle.path.specs.Path.{childFor}
 use Rattle.steps.specs.Steps.{size, KidsFilled, moved, ChildAt, pageHere, PairAt}
-use Rattle.growth.specs.Ways.{Filled, Others, OnWay, Below, RecordRoom, PageRoom, Mended}
+use Rattle.room.specs.Ways.{Filled, Others, OnWay, Below, RecordRoom, PageRoom, Mended}
 
 -- the page of two neighbours
 abbrev pub pairPage : {w : List ℕ} {h q j : ℕ} → PairAt w h q j → Inner (Tree h)

@@ -10,8 +10,8 @@ ghost use Rattle.pages.specs.Layout.{pageOf, fillOf, childIn};
 ghost use Rattle.image.specs.Read.{setOf};
 ghost use Rattle.image.specs.Valid.{valid};
 ghost use Rattle.steps.specs.Steps.{Split, Merged};
-ghost use Rattle.growth.specs.Ways.{Mended};
-ghost use Rattle.xrtree.proofs.Whole.{fill};
+ghost use Rattle.room.specs.Ways.{Mended};
+ghost use Rattle.xrtree.specs.Holes.{fill};
 ghost use Rattle.remove.specs.Mends.{SplitAsk, MergeAsk, ThinLeft, ThinRight, PairMended, Thin, MendAsk, Leads};
 
 // Children j and j + 1 of page number `at` of the path become one. `inner` is 0 for leaves, 1 for inner pages.
@@ -139,7 +139,7 @@ pub fn remove(img: &mut [u32], start: u32)
     ensures { λ _. ⌜ T (valid (now (img .exit))) × (setOf (now (img .exit)) ≡ deleted start (setOf (now (img .entry)))) ⌝ }
 {
     let path = path::descend(img, start);
-    owner::take_entry(img, path, start);
+    entries::take_entry(img, path, start);
     let d = path::depth(img);
     if d == 0 {
         return;
@@ -147,6 +147,6 @@ pub fn remove(img: &mut [u32], start: u32)
     mend(img, path, start, d - 1);
     let keys = pages::fill(img, path[0]);
     if keys == 0 {
-        owner::shrink_root(img);
+        entries::shrink_root(img);
     }
 }

@@ -14,21 +14,21 @@ use script::Command;
 struct Store {
     outer: usize,
     inner: usize,
-    seats: [Seat; 8],
+    seats: [Seat; regions::SEAT_COUNT],
 }
 
 fn fresh() -> Store {
     let s = seats::closed_seat();
-    let desk = [s; 8];
+    let desk = [s; regions::SEAT_COUNT];
     Store {
-        outer: 12288,
-        inner: 12288,
+        outer: pages::IMAGE_WORDS,
+        inner: pages::IMAGE_WORDS,
         seats: desk,
     }
 }
 
 // The store with the desk as a call left it.
-fn with_seats(store: Store, seats: [Seat; 8]) -> Store {
+fn with_seats(store: Store, seats: [Seat; regions::SEAT_COUNT]) -> Store {
     Store {
         outer: store.outer,
         inner: store.inner,
@@ -156,7 +156,7 @@ fn play_all(text: &[u8])
 {
     let mut outer = [4294967295u32; 12300];
     let mut inner = [4294967295u32; 12300];
-    let mut buffer = [0u32; 1024];
+    let mut buffer = [0u32; regions::BUFFER_WORDS];
     let mut answers = [0u32; 4096];
     let mut store = fresh();
     let mut line: u32 = 0;

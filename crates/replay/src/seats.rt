@@ -45,7 +45,7 @@ fn written_seat(n: Numbers) -> Seat {
 }
 
 // The seats with one of them written directly.
-fn place(seats: [Seat; 8], n: Numbers) -> [Seat; 8] {
+fn place(seats: [Seat; regions::SEAT_COUNT], n: Numbers) -> [Seat; regions::SEAT_COUNT] {
     let mut left = seats;
     let i = words::wide(n[0]);
     if i < 8 {
@@ -55,7 +55,11 @@ fn place(seats: [Seat; 8], n: Numbers) -> [Seat; 8] {
 }
 
 // A command that opens, closes or writes seats.
-pub fn call(seats: [Seat; 8], what: usize, n: Numbers) -> [Seat; 8] {
+pub fn call(
+    seats: [Seat; regions::SEAT_COUNT],
+    what: usize,
+    n: Numbers,
+) -> [Seat; regions::SEAT_COUNT] {
     if what == script::PLACE {
         return place(seats, n);
     }
@@ -75,7 +79,7 @@ pub fn call(seats: [Seat; 8], what: usize, n: Numbers) -> [Seat; 8] {
 }
 
 // A part: its number, then its words.
-pub fn part(seats: [Seat; 8], buffer: &[u32], n: Numbers) {
+pub fn part(seats: [Seat; regions::SEAT_COUNT], buffer: &[u32], n: Numbers) {
     let number = desk::part_number_by_value(seats, buffer, n[0], n[1]);
     console::line(&[number]);
     let part = desk::part_by_value(seats, buffer, n[0], n[1]);
@@ -83,7 +87,12 @@ pub fn part(seats: [Seat; 8], buffer: &[u32], n: Numbers) {
 }
 
 // A round: its number and the eight counts.
-pub fn round(outer: &[u32], inner: &[u32], seats: [Seat; 8], buffer: &mut [u32]) -> [Seat; 8] {
+pub fn round(
+    outer: &[u32],
+    inner: &[u32],
+    seats: [Seat; regions::SEAT_COUNT],
+    buffer: &mut [u32],
+) -> [Seat; regions::SEAT_COUNT] {
     let r = desk::round_by_value(outer, inner, seats, buffer);
     let c = r.counts;
     console::line(&[r.number, c[0], c[1], c[2], c[3], c[4], c[5], c[6], c[7]]);

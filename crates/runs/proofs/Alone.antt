@@ -14,9 +14,9 @@ use Rattle.regions.specs.Sound.{Sound}
 use Rattle.image.specs.Read.{setOf}
 use Rattle.image.specs.Valid.{valid}
 use Rattle.desk.specs.Promises.{OpensDesk}
-use Rattle.history.specs.Calls.{Done}
-use Rattle.history.specs.Calls.Which.{outer}
-use Rattle.history.specs.Held.{heldFrom, Stands}
+use Rattle.plainruns.specs.Calls.{Done}
+use Rattle.plainruns.specs.Calls.Which.{outer}
+use Rattle.plainruns.specs.Held.{heldFrom, Stands}
 use Rattle.runs.specs.Calls.{Lent, Runs, Ready}
 use Rattle.runs.specs.Calls.Does.{saves, deletes}
 use Rattle.runs.specs.Calls.Runs.{stop, go}

@@ -15,13 +15,13 @@ use Rattle.regions.specs.Sets.{Set, isAt, only, heldAt, crossed, heldBy}
 use Rattle.regions.specs.Calls.{Pair, joined}
 use Rattle.regions.specs.Sound.{Sound, Ascending}
 use Rattle.image.specs.Read.{setOf as setIn}
-use Rattle.history.specs.Calls.{Which, sharesGiven, Fair, Call, Shown, Answer, Step, Done, callsOf, shareGiven, byAccount, leftOut, Same, Agree, left, Served, Passed, next}
-use Rattle.history.specs.Calls.Which.{outer, inner}
-use Rattle.history.specs.Calls.Call.{save, round}
-use Rattle.history.specs.Held.{heldFrom, Stands, wroteFrom}
-use Rattle.history.proofs.Good.{good-reached, never}
-use Rattle.history.proofs.Demand.{theorem-a, theorem-b, theorem-b-rest, theorem-c, theorem-c-whole}
-use Rattle.history.proofs.Held.{held-at, theorem-held, theorem-sound, theorem-few, theorem-wrote}
+use Rattle.plainruns.specs.Calls.{Which, sharesGiven, Fair, Call, Shown, Answer, Step, Done, callsOf, shareGiven, byAccount, leftOut, Same, Agree, left, Served, Passed, next}
+use Rattle.plainruns.specs.Calls.Which.{outer, inner}
+use Rattle.plainruns.specs.Calls.Call.{save, round}
+use Rattle.plainruns.specs.Held.{heldFrom, Stands, wroteFrom}
+use Rattle.plainruns.proofs.Good.{good-reached, never}
+use Rattle.plainruns.proofs.Demand.{theorem-a, theorem-b, theorem-b-rest, theorem-c, theorem-c-whole}
+use Rattle.plainruns.proofs.Held.{held-at, theorem-held, theorem-sound, theorem-few, theorem-wrote}
 use Rattle.runs.specs.Calls.{Lent, imageOf, Valid, Does, Runs, Ready, meaning, unwritten, RoundHands}
 use Rattle.runs.proofs.Meaning.{means, begins, always-valid, meant}
 

@@ -14,7 +14,8 @@ use Rattle.regions.specs.declared.Region.{Region}
 use Rattle.regions.specs.declared.Seat.{Seat}
 use Rattle.regions.specs.Numbers.{unless, imageFirst}
 use Rattle.regions.specs.Sets.{Set, saved, deleted}
-use Rattle.regions.specs.Calls.{written, countWritten, moreRemain, regionWidth, regionWords, openSetNo, saveNo, deleteNo, pointNo, ancestors, parent, boundsNo, descendants, children, Pair, joined, joinNo, pairWidth, pairWords}
+use Rattle.regions.specs.Limits.{regionWidth, pairWidth}
+use Rattle.regions.specs.Calls.{written, countWritten, moreRemain, regionWords, openSetNo, saveNo, deleteNo, pointNo, ancestors, parent, boundsNo, descendants, children, Pair, joined, joinNo, pairWords}
 use Rattle.regions.specs.Desk.{seatAt, openSeatNo, closeSeatNo, turned, handedWords, countHanded, counts, poured, served, part}
 use Rattle.regions.proofs.Seats.{handed-long, handed-fits, poured-long, poured-in}
 use Rattle.image.specs.Read.{setOf as setIn}
@@ -23,12 +24,12 @@ use Rattle.pages.specs.Layout.{imageWords}
 use Rattle.index.specs.Opening.{openNo}
 use Rattle.index.specs.Searches.{parentNumber, parentFound}
 use Rattle.index.proofs.Empty.{opens-valid}
-use Rattle.history.specs.Calls.{Which, State, setOf, withSet, withDesk, Call, Shown, Answer, says, refuses, lists, pages, finds, joins, handsBack, looked, answer, noted, unnoted, next, Step, Done, Run, Opened}
-use Rattle.history.specs.Calls.Which.{outer, inner}
-use Rattle.history.specs.Calls.Run.{none, then}
-use Rattle.history.proofs.Good.{Good, good-next, good-opened, round-0, round-answer, round-leaves, seat-fits}
-use Rattle.history.proofs.Relate.{desk-words}
-use Rattle.history.proofs.Demand.{count-at, words-at}
+use Rattle.plainruns.specs.Calls.{Which, State, setOf, withSet, withDesk, Call, Shown, Answer, says, refuses, lists, pages, finds, joins, handsBack, looked, answer, noted, unnoted, next, Step, Done, Run, Opened}
+use Rattle.plainruns.specs.Calls.Which.{outer, inner}
+use Rattle.plainruns.specs.Calls.Run.{none, then}
+use Rattle.plainruns.proofs.Good.{Good, good-next, good-opened, round-0, round-answer, round-leaves, seat-fits}
+use Rattle.plainruns.proofs.Relate.{desk-words}
+use Rattle.plainruns.proofs.Demand.{count-at, words-at}
 use Rattle.runs.specs.Calls.{Lent, imageOf, withImage, withSeats, Valid, partsOf, Does, Runs, Ready, meaning, unwritten}
 use Rattle.runs.specs.Calls.Does.{saves, deletes, findsAncestors, findsParent, findsDescendants, findsChildren, joinsSets, rounds, opensSeat, closesSeat, parts, partNumbers}
 use Rattle.runs.specs.Calls.Runs.{stop, go}

@@ -27,10 +27,10 @@ use Rattle.index.specs.Changes.{Saves, Deletes}
 use Rattle.index.specs.Searches.{FindsAncestors}
 use Rattle.index.proofs.Opened.{open-done}
 use Rattle.index.proofs.Empty.{none-placed, one-placed, opened-word, opened-set, opened-valid}
-use Rattle.history.specs.Calls.{Done}
-use Rattle.history.specs.Calls.Which.{outer}
-use Rattle.history.specs.Calls.Look.{ancestorSearch}
-use Rattle.history.specs.Calls.Call.{save, delete, look}
+use Rattle.plainruns.specs.Calls.{Done}
+use Rattle.plainruns.specs.Calls.Which.{outer}
+use Rattle.plainruns.specs.Calls.Look.{ancestorSearch}
+use Rattle.plainruns.specs.Calls.Call.{save, delete, look}
 use Rattle.runs.specs.Calls.{Runs, Ready, tells}
 use Rattle.runs.specs.Calls.Does.{saves, deletes, findsAncestors}
 use Rattle.runs.specs.Calls.Runs.{stop, go}

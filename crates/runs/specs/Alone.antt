@@ -5,19 +5,20 @@ use mathlib.Core.Path.{_≡_}
 use mathlib.Core.Bool.{false}
 use mathlib.Core.List.{List, [], _∷_}
 use lib.ListN.{length}
+use Rattle.regions.specs.Limits.{accountCount}
 use Rattle.regions.specs.declared.Region.{Region}
 use Rattle.regions.specs.Numbers.{DONE}
 use Rattle.index.specs.Opening.{OpensSet}
 use Rattle.index.specs.Changes.{Saves, Deletes}
-use Rattle.history.specs.Calls.{Done}
-use Rattle.history.specs.Calls.Which.{outer}
-use Rattle.history.specs.Calls.Call.{save, delete}
+use Rattle.plainruns.specs.Calls.{Done}
+use Rattle.plainruns.specs.Calls.Which.{outer}
+use Rattle.plainruns.specs.Calls.Call.{save, delete}
 use Rattle.runs.specs.Calls.{tells}
 
 -- how it begins: any words, opened with sixteen shares, answered 0
 pub record OpenedAlone (shares w : List ℕ) : Type 0 where
   pub lent : List ℕ
-  pub sixteen : length shares ≡ 16
+  pub sixteen : length shares ≡ accountCount
   pub opens : OpensSet lent shares DONE w
 
 -- call after call, each by its own record

@@ -6,6 +6,7 @@ use mathlib.Core.Bool.{Bool, true, false}
 use mathlib.Core.List.{List, [], _∷_}
 use lib.ListN.{length, take, drop, replicate}
 use denote.Ref.{RefT, now}
+use Rattle.regions.specs.Limits.{accountCount, bufferWords}
 use Rattle.regions.specs.declared.Region.{Region}
 use Rattle.regions.specs.declared.Kind.{Kind}
 use Rattle.regions.specs.declared.Open.{Open}
@@ -21,10 +22,10 @@ use Rattle.index.specs.Changes.{Saves, Deletes}
 use Rattle.index.specs.Searches.{FindsAncestors, FindsParent, FindsDescendants, FindsChildren, parentNumber, parentFound}
 use Rattle.index.specs.Joins.{JoinsSets}
 use Rattle.desk.specs.Promises.{OpensDesk, OpensSeat, ClosesSeat, Rounds, LendsPart, PartNumber}
-use Rattle.history.specs.Calls.{Which, State, Call, Shown, Answer, Done, left, Served, Passed}
-use Rattle.history.specs.Calls.Which.{outer, inner}
-use Rattle.history.specs.Calls.Look.{ancestorSearch, parentSearch, descendantSearch, childSearch, join}
-use Rattle.history.specs.Calls.Call.{save, delete, look, round, openSeat, closeSeat, askPart, askPartNo}
+use Rattle.plainruns.specs.Calls.{Which, State, Call, Shown, Answer, Done, left, Served, Passed}
+use Rattle.plainruns.specs.Calls.Which.{outer, inner}
+use Rattle.plainruns.specs.Calls.Look.{ancestorSearch, parentSearch, descendantSearch, childSearch, join}
+use Rattle.plainruns.specs.Calls.Call.{save, delete, look, round, openSeat, closeSeat, askPart, askPartNo}
 
 -- WHAT THE CALLER LENDS, in words and seats
 pub record Lent : Type 0 where
@@ -100,12 +101,12 @@ pub record Ready (so si : List ℕ) (l : Lent) : Type 0 where
   pub outer-lent : List ℕ
   pub inner-lent : List ℕ
   pub desk-lent : List Seat
-  pub outer-shares : length so ≡ 16
-  pub inner-shares : length si ≡ 16
+  pub outer-shares : length so ≡ accountCount
+  pub inner-shares : length si ≡ accountCount
   pub opens-outer : OpensSet outer-lent so DONE (l .outerImage)
   pub opens-inner : OpensSet inner-lent si DONE (l .innerImage)
   pub opens-desk : OpensDesk desk-lent DONE (l .desk)
-  pub buffer-is : length (l .buffer) ≡ 1024
+  pub buffer-is : length (l .buffer) ≡ bufferWords
 
 -- WHAT IT MEANS: the two sets that the images mean, the seats, the buffer; beside it the notes of histories, which no call reads and nobody lends
 abbrev pub meaning : Lent → List Bool → State
@@ -113,7 +114,7 @@ meaning l notes = record { outerSet = setOf (l .outerImage); innerSet = setOf (l
 
 -- at the beginning no round has written any word
 abbrev pub unwritten : List Bool
-unwritten = replicate 1024 false
+unwritten = replicate bufferWords false
 
 -- WHAT A ROUND HANDS over X and Y, from l to m, answered by z: number 0 and eight counts; every open seat is served, as many as its limit or all that are left
 -- if these are fewer; every closed one is passed

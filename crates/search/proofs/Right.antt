@@ -1,6 +1,6 @@
 -- A valid image of 32-bit words: its tree is good, so the search along a path finds the ancestors, outermost first, in at most 4 + 2 × total steps.
 -- Assumes nothing.
-use Prim.Native.Nat.{ℕ, zero, suc, _+_, _-_, _*_, _≤_, _<_}
+use Prim.Native.Nat.{ℕ, zero, suc, _+_, _*_, _≤_, _<_}
 use mathlib.Core.Path.{_≡_, ap}
 use mathlib.Core.List.{List, _++_, map}
 use lib.Dec.{T}
@@ -17,7 +17,7 @@ use Rattle.regions.specs.declared.Region.{Region}
 use Rattle.xrtree.specs.Tree.{Listing, listKeys, listRegions, regionOf, keysOf, regions, leaves}
 use Rattle.xrtree.specs.Rules.{filled, linked, rule1, rule2, rule3, rule4, rule6}
 use Rattle.xrtree.specs.Search.{find, steps}
-use Rattle.xrtree.proofs.Claims.{Good}
+use Rattle.xrtree.specs.Claims.{Good}
 use Rattle.xrtree.proofs.Rules.{Ruled, rules-good}
 use Rattle.xrtree.proofs.Search.{search-right, steps-few}
 use Rattle.pages.specs.Layout.{pageOf, fillOf, childIn}

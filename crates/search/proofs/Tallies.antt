@@ -10,7 +10,8 @@ use Rattle.words.specs.Lists.{filter}
 use Rattle.words.proofs.Listed.{filter-no, filter-append}
 use Rattle.words.proofs.Counted.{filter-short}
 use Rattle.regions.specs.declared.Region.{Region}
-use Rattle.regions.specs.Calls.{regionWidth, regionWords}
+use Rattle.regions.specs.Limits.{regionWidth}
+use Rattle.regions.specs.Calls.{regionWords}
 use Rattle.answers.specs.Items.{writtenFrom}
 use Rattle.answers.proofs.Items.{from-none, from-long, from-append}
 use Rattle.search.specs.declared.Found.{Found}

@@ -9,7 +9,8 @@ use Rattle.words.specs.Lists.{filter, lastOr}
 use Rattle.words.proofs.Tests.{eq-no}
 use Rattle.words.proofs.Listed.{all-every, filter-all, filter-none}
 use Rattle.regions.specs.Positions.{isAbove}
-use Rattle.regions.specs.Calls.{regionWidth, regionWords, ancestors, innermost, parent}
+use Rattle.regions.specs.Limits.{regionWidth}
+use Rattle.regions.specs.Calls.{regionWords, ancestors, innermost, parent}
 use Rattle.regions.specs.Sets.{Set}
 use Rattle.regions.specs.declared.Region.{Region}
 use Rattle.answers.proofs.Items.{from-first}

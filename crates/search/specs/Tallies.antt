@@ -6,7 +6,8 @@ use mathlib.Core.List.{List, [], _∷_}
 use lib.ListN.{length}
 use Rattle.words.specs.Lists.{filter}
 use Rattle.regions.specs.declared.Region.{Region}
-use Rattle.regions.specs.Calls.{written, regionWidth, regionWords}
+use Rattle.regions.specs.Limits.{regionWidth}
+use Rattle.regions.specs.Calls.{written, regionWords}
 use Rattle.answers.specs.Items.{writtenFrom}
 use Rattle.search.specs.declared.Found.{Found}
 use Rattle.search.specs.declared.Found.the-variants.{Nothing, At}

@@ -3,9 +3,7 @@ pub mod Turns
 pub mod Flat
 pub mod Follow
 pub mod Filling
-pub mod Down
 pub mod Order
 pub mod Once
 pub mod Places
 pub mod Whole
-pub mod Shapely

@@ -2,7 +2,7 @@
 -- (A page could be read as a leaf here and as an inner page there. Its word 15 is the third start of the one and the fourth key of the other, and before
 -- a third start of number x no key x can stand, since the second start does.)
 -- Assumes nothing.
-use Prim.Native.Nat.{ℕ, zero, suc, _+_, _-_, _*_, _<_, _≤_}
+use Prim.Native.Nat.{ℕ, zero, suc, _+_, _*_, _<_, _≤_}
 use mathlib.Core.Path.{_≡_, refl, ap, _∙_}
 use mathlib.Core.Bool.{cond}
 use mathlib.Core.List.{List, [], _∷_, _++_, map}

@@ -1,17 +1,17 @@
 -- Every place is in the list once or free, never both: where no place stands in the list twice, that is the same as that the listed places are in use
 -- and that the list is as long as there are places in use.
 -- Assumes nothing.
-use Prim.Native.Nat.{ℕ, zero, suc, _+_, _-_, _≤_}
+use Prim.Native.Nat.{ℕ, zero, suc, _+_, _≤_}
 use mathlib.Core.Path.{_≡_, refl, sym, ap, _∙_}
 use mathlib.Core.Bool.{Bool, true, false, true≢false}
 use mathlib.Core.List.{List, [], _∷_}
 use lib.Dec.{eqb}
 use lib.ListN.{length}
 use native.Mathlib.Omega.{arith}
-use Rattle.words.specs.Lists.{All, count}
+use Rattle.words.specs.Lists.{All, count, sumTo}
 use Rattle.words.proofs.Tests.{by-test, eq-of, ne-of}
 use Rattle.words.proofs.Says.{Says, and-says, says-iff, le-says, eq-says, all-says}
-use Rattle.words.proofs.Counted.{one, sumTo, count-same, count-other, count-more, sum-same, sum-tight, sum-count}
+use Rattle.words.proofs.Counted.{one, count-same, count-other, count-more, sum-same, sum-tight, sum-count}
 use Rattle.xrtree.specs.Rules.{onceOrFree, placed}
 use Rattle.pages.specs.Layout.{pageUsed}
 use Rattle.shape.specs.Run.{usedTo}

@@ -2,7 +2,7 @@
 // is either met once on the walk or marked as unused. The tree is walked from left to right; no place is trusted before it was tested.
 ghost use mathlib.Core.Path.{_≡_};
 ghost use Prim.Native.Nat.{_<_, _≤_};
-ghost use Rattle.pages.specs.Layout.{pageOf, fillOf};
+ghost use Rattle.pages.specs.Layout.{pageOf, fillOf, pageCount};
 ghost use Rattle.image.specs.Shape.{shapely};
 ghost use Rattle.shape.specs.Run.{wrong, stepPage, stepLeaf, stepCode, run, finished, pageRight, startEvents, leafEvents, eventsAt, usedTo};
 
@@ -120,7 +120,7 @@ fn page_right(img: &[u32], least: u32, place: u32) -> bool
     if place < 1 {
         return false;
     }
-    if 160 < place {
+    if pages::PAGE_COUNT < place {
         return false;
     }
     if pages::mark(img, place) == 0 {
@@ -157,10 +157,10 @@ fn pass_tree(img: &[u32], level: usize, least: u32, place: u32, s: Passed) -> Pa
 
 // How many pages are in use.
 fn used_pages(img: &[u32]) -> usize
-    ensures { λ r. ⌜ r ≡ usedTo (now (img .entry)) 160 ⌝ }
+    ensures { λ r. ⌜ r ≡ usedTo (now (img .entry)) pageCount ⌝ }
 {
     let mut n: usize = 0;
-    let mut p: u32 = 160;
+    let mut p: u32 = pages::PAGE_COUNT;
     while p > 0 {
         if pages::mark(img, p) != 0 {
             n += 1;
@@ -189,7 +189,7 @@ fn is_finished(s: Passed) -> bool
 pub fn shaped(img: &[u32]) -> bool
     ensures { λ r. ⌜ r ≡ shapely (now (img .entry)) ⌝ }
 {
-    if img.len() != 12288 {
+    if img.len() != pages::IMAGE_WORDS {
         return false;
     }
     let height = words::wide_word(img, 1);

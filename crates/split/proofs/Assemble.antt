@@ -15,9 +15,10 @@ use Rattle.words.proofs.Counted.{one, one-at-most, count-append, count-one, cou
 use Rattle.regions.specs.declared.Region.{Region}
 use Rattle.xrtree.specs.Tree.{Key, Leaf, Inner, Tree, listRegions, listLeaves, listPages, listRecords, regions, leaves, pagePlaces, recordPlaces}
 use Rattle.xrtree.specs.Rules.{linked}
-use Rattle.xrtree.proofs.Claims.{Over, Fits}
-use Rattle.xrtree.proofs.Here.{Here}
-use Rattle.xrtree.proofs.Whole.{Part, fill, beforeKids, afterKids}
+use Rattle.xrtree.specs.Claims.{Over, Fits}
+use Rattle.xrtree.specs.Local.{Here, Part}
+use Rattle.xrtree.specs.Holes.{fill}
+use Rattle.xrtree.proofs.Whole.{beforeKids, afterKids}
 use Rattle.pages.specs.Layout.{rootOf, heightOf, sharesOf, pageOf, markOf, recordOf, pageUsed, recordUsed}
 use Rattle.store.proofs.Kept.{page-used-same, record-used-same}
 use Rattle.holding.specs.Held.{placeOf, PageHeld, Held}
@@ -124,12 +125,6 @@ module _ {w w₂ w₅ : List ℕ} {h q i c : ℕ} {s : ChildAt w h q i} {r : ℕ
       (λ z. omega (arith, subst (λ y. count y (pagePlaces (suc h) (pageHere s) ++ s .o .pages) ≡ 0) (sym z) r-apart))
       (λ z. omega (arith, count-one x q z))
       ∙ m .pages x (range .1)
-
-  p≢r : p ≢ r
-  p≢r z = omega (arith, old-pages p, count-one p p refl, subst (λ y. count y (pagePlaces (suc h) (pageHere s) ++ s .o .pages) ≡ 0) (sym z) r-apart)
-
-  q≢r : q ≢ r
-  q≢r z = omega (arith, old-pages q, count-one q q refl, subst (λ y. count y (pagePlaces (suc h) (pageHere s) ++ s .o .pages) ≡ 0) (sym z) r-apart)
 
   page-uses : (x : ℕ) → 1 ≤ x → x ≤ 160 → cond (pageUsed w₅ x) 1 0 ≡ cond (pageUsed w x) 1 0 + count x (r ∷ [])
   page-uses x a b =

@@ -1,6 +1,6 @@
 -- The children of a page cut at a key: what is listed of the two parts, what every child of them has.
 -- Assumes nothing.
-use Prim.Native.Nat.{ℕ, zero, suc, _+_, _<_}
+use Prim.Native.Nat.{ℕ, zero, suc, _<_}
 use mathlib.Core.Path.{_≡_, refl, sym, ap, _∙_}
 use mathlib.Core.Bool.{Bool}
 use mathlib.Core.List.{List, [], _∷_, _++_}
@@ -9,7 +9,7 @@ use lib.ListN.{length, take, drop}
 use native.Mathlib.Omega.{arith}
 use Rattle.words.proofs.Tests.{and-left, and-right, and-both}
 use Rattle.xrtree.specs.Tree.{Key, weave, keysIn, allKids}
-use Rattle.xrtree.proofs.Splice.{trim}
+use Rattle.xrtree.specs.Moves.{trim}
 use Rattle.xrtree.proofs.Split.{weave-two}
 use Rattle.holding.specs.Held.{kidPlaces, EveryKid}
 

@@ -9,15 +9,14 @@ use Rattle.words.specs.Lists.{count}
 use Rattle.words.proofs.Counted.{count-append}
 use Rattle.regions.specs.declared.Region.{Region}
 use Rattle.xrtree.specs.Tree.{Key, Tree}
-use Rattle.xrtree.proofs.Splice.{keyWith}
-use Rattle.xrtree.proofs.Whole.{Post, fillKids, fill}
-use Rattle.xrtree.proofs.Whole.Post.{atKey, atEnd}
+use Rattle.xrtree.specs.Moves.{keyWith}
+use Rattle.xrtree.specs.Holes.{Post, fillKids, fill}
+use Rattle.xrtree.specs.Holes.Post.{atKey, atEnd}
 use Rattle.pages.specs.Layout.{markOf, fillOf, nextOf}
 use Rattle.pages.specs.declared.KeyWords.{KeyWords}
 use Rattle.image.specs.Decode.{keyWordsAt}
-use Rattle.holding.specs.Held.{KeyHeld, KeysHeld, placeOf, PageHeld}
-use Rattle.holding.proofs.Frames.{keyRecords}
-use Rattle.pagework.specs.Pages.{putIn, putFor, keysOf, childrenOf, IsInner}
+use Rattle.holding.specs.Held.{KeyHeld, KeysHeld, placeOf, PageHeld, keyRecords}
+use Rattle.newpages.specs.Pages.{putIn, putFor, keysOf, childrenOf, IsInner}
 use Rattle.records.specs.Touched.{Touched, Uses, Ends}
 use Rattle.records.specs.Kept.{Lifts, Apart}
 use Rattle.records.specs.declared.Lifted.{Lifted}

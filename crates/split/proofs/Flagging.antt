@@ -10,13 +10,13 @@ use native.Mathlib.Omega.{arith}
 use Rattle.words.proofs.Listed.{map-append}
 use Rattle.regions.specs.Positions.{stabs}
 use Rattle.xrtree.specs.Tree.{Entry}
-use Rattle.xrtree.proofs.Splice.{marked}
+use Rattle.xrtree.specs.Moves.{marked}
 use Rattle.xrtree.proofs.Extra.{marked-off}
 use Rattle.pages.specs.Layout.{markOf, fillOf, nextOf, regionIn, entryWord}
 use Rattle.image.specs.Read.{entryAt, entriesFrom}
-use Rattle.pagework.specs.Pages.{putFor, flaggedEntry, entriesOf, sparesOf, IsLeaf}
-use Rattle.pagework.proofs.Read.{entries-up, entry-in}
-use Rattle.pagework.proofs.Items.{up-long}
+use Rattle.newpages.specs.Pages.{putFor, flaggedEntry, entriesOf, sparesOf, IsLeaf}
+use Rattle.newpages.proofs.Read.{entries-up, entry-in}
+use Rattle.newpages.proofs.Items.{up-long}
 use Rattle.split.specs.Moves.{Flagged}
 
 pub map-long : {A B : Type 0} (f : A → B) (xs : List A) → length (map f xs) ≡ length xs

@@ -14,8 +14,7 @@ use Rattle.words.proofs.Listed.{filter-yes, filter-no}
 use Rattle.regions.specs.Positions.{stabs}
 use Rattle.regions.specs.declared.Region.{Region}
 use Rattle.xrtree.specs.Tree.{Entry, Key, regionOf}
-use Rattle.xrtree.proofs.Splice.{keyWith, firstStart, firstEnd}
-use Rattle.xrtree.proofs.Split.{fresh}
+use Rattle.xrtree.specs.Moves.{keyWith, firstStart, firstEnd, fresh}
 use Rattle.pages.specs.Layout.{recordUsed}
 use Rattle.pages.specs.declared.KeyWords.{KeyWords}
 use Rattle.image.specs.Read.{entryAt, entriesFrom, recordRegion}

@@ -8,7 +8,7 @@ use native.Mathlib.Omega.{arith}
 use Rattle.pages.specs.Layout.{pageOf, markOf, fillOf, nextOf, childIn, pageUsed}
 use Rattle.steps.specs.Steps.{Split}
 use Rattle.store.specs.Store.{FirstFree}
-use Rattle.pagework.specs.Pages.{keysOf, childrenOf, IsInner}
+use Rattle.newpages.specs.Pages.{keysOf, childrenOf, IsInner}
 use Rattle.split.specs.Stored.{Stored}
 use Rattle.split.specs.Moves.{RaiseReady, Raised, EnterReady, Entered}
 use Rattle.split.specs.Ready.{InnerReady}

@@ -11,19 +11,20 @@ use Rattle.words.specs.Lists.{count}
 use Rattle.words.proofs.Counted.{count-append}
 use Rattle.xrtree.specs.Tree.{Key, Leaf, Tree, weave, listed, keysIn, listPages, listRecords, regions, leaves}
 use Rattle.xrtree.specs.Rules.{linked, filledBelow}
-use Rattle.xrtree.proofs.Claims.{pageAt, Claim}
-use Rattle.xrtree.proofs.Local.{NoLeaf}
-use Rattle.xrtree.proofs.Splice.{page-at, keyWith, trim, raised, raisedPlaces, loAfter}
-use Rattle.xrtree.proofs.Whole.{Part, FirstIs, Post, fill, fillKids, hiPost}
-use Rattle.xrtree.proofs.Whole.Post.{atKey, atEnd}
+use Rattle.xrtree.specs.Claims.{pageAt, Claim}
+use Rattle.xrtree.specs.Local.{NoLeaf, Part, FirstIs}
+use Rattle.xrtree.specs.Holes.{loAfter, Post, fill, fillKids, hiPost}
+use Rattle.xrtree.specs.Moves.{keyWith, trim, raised, raisedPlaces}
+use Rattle.xrtree.proofs.Splice.{page-at}
+use Rattle.xrtree.specs.Holes.Post.{atKey, atEnd}
 use Rattle.pages.specs.Layout.{pageOf, markOf, fillOf, nextOf}
 use Rattle.pages.specs.declared.KeyWords.{KeyWords}
-use Rattle.holding.specs.Held.{KeyHeld, KeysHeld, kidPlaces, EveryKid, placeOf, PageHeld, Held}
-use Rattle.holding.proofs.Frames.{keyRecords, keys-frame}
+use Rattle.holding.specs.Held.{KeyHeld, KeysHeld, kidPlaces, EveryKid, placeOf, PageHeld, Held, keyRecords}
+use Rattle.holding.proofs.Frames.{keys-frame}
 use Rattle.standing.specs.Stands.{Roomy}
 use Rattle.steps.specs.Steps.{KidsFilled, nextPlaces}
 use Rattle.steps.proofs.Stays.{HeldAs}
-use Rattle.pagework.specs.Pages.{keysOf, childrenOf, IsInner}
+use Rattle.newpages.specs.Pages.{keysOf, childrenOf, IsInner}
 use Rattle.records.specs.Touched.{Touched}
 use Rattle.records.proofs.Marks.{none-in, touched-then}
 use Rattle.split.specs.Sides.{topped, nextCut}

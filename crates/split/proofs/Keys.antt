@@ -11,16 +11,16 @@ use Rattle.words.proofs.Listed.{all-mono, all-append, all-left, all-right}
 use Rattle.regions.specs.Positions.{stabs}
 use Rattle.regions.specs.declared.Region.{Region}
 use Rattle.xrtree.specs.Tree.{Key}
-use Rattle.xrtree.proofs.Claims.{pairIs}
-use Rattle.xrtree.proofs.Splice.{firstStart, firstEnd, keyWith, trim, raisedPlaces}
-use Rattle.xrtree.proofs.Whole.{Post, fillKids, fillLast}
-use Rattle.xrtree.proofs.Whole.Post.{atKey, atEnd}
+use Rattle.xrtree.specs.Claims.{pairIs}
+use Rattle.xrtree.specs.Moves.{firstStart, firstEnd, keyWith, trim, raisedPlaces}
+use Rattle.xrtree.specs.Holes.{Post, fillKids, fillLast}
+use Rattle.xrtree.specs.Holes.Post.{atKey, atEnd}
 use Rattle.pages.specs.declared.KeyWords.{KeyWords}
 use Rattle.image.specs.Decode.{keyWordsAt, keysFrom}
-use Rattle.holding.specs.Held.{KeyHeld, KeysHeld, kidPlaces}
+use Rattle.holding.specs.Held.{KeyHeld, KeysHeld, kidPlaces, keyRecords}
 use Rattle.holding.proofs.Chains.{chain-range}
-use Rattle.holding.proofs.Frames.{SameRecord, keyRecords, key-frame, keys-frame}
-use Rattle.pagework.specs.Pages.{putIn, putFor}
+use Rattle.holding.proofs.Frames.{SameRecord, key-frame, keys-frame}
+use Rattle.newpages.specs.Pages.{putIn, putFor}
 use Rattle.records.specs.Touched.{Touched}
 use Rattle.records.proofs.Marks.{touched-list}
 use Rattle.steps.specs.Steps.{rekeyed}

@@ -14,7 +14,7 @@ use Rattle.image.specs.Read.{entryAt, entriesFrom}
 use Rattle.holding.specs.Held.{placeOf}
 use Rattle.steps.specs.Steps.{ChildAt, Split}
 use Rattle.store.specs.Store.{FirstFree}
-use Rattle.pagework.specs.Pages.{entriesOf, sparesOf, IsLeaf}
+use Rattle.newpages.specs.Pages.{entriesOf, sparesOf, IsLeaf}
 use Rattle.split.specs.Stored.{Stored}
 use Rattle.split.specs.Moves.{Gathered, GatherReady, Flagged, EnterReady, Entered}
 use Rattle.split.specs.Ready.{LeafReady}

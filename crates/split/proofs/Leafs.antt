@@ -14,11 +14,11 @@ use Rattle.words.proofs.Listed.{all-mono, all-two, all-take, all-drop, pairs-mo
 use Rattle.regions.specs.Positions.{stabs}
 use Rattle.regions.specs.declared.Region.{Region}
 use Rattle.xrtree.specs.Tree.{Entry, Leaf, listed, regionOf, regions}
-use Rattle.xrtree.proofs.Claims.{leafAt, Over, Fits, Within}
-use Rattle.xrtree.proofs.Here.{Here}
-use Rattle.xrtree.proofs.Splice.{loAfter, keyWith, marked}
-use Rattle.xrtree.proofs.Whole.{Part, fill, hiPost}
-use Rattle.xrtree.proofs.Split.{fresh, regions-marked}
+use Rattle.xrtree.specs.Claims.{leafAt, Over, Fits, Within}
+use Rattle.xrtree.specs.Local.{Here, Part}
+use Rattle.xrtree.specs.Holes.{loAfter, fill, hiPost}
+use Rattle.xrtree.specs.Moves.{keyWith, marked, fresh}
+use Rattle.xrtree.proofs.Split.{regions-marked}
 use Rattle.xrtree.proofs.Merge.{all-unmap}
 use Rattle.xrtree.specs.Rules.{keyBetween}
 use Rattle.xrtree.proofs.Extra.{cut, fresh-first, fresh-append, marked-later}
@@ -29,9 +29,9 @@ use Rattle.holding.specs.Held.{KeyHeld, LeafHeld}
 use Rattle.standing.specs.Stands.{top}
 use Rattle.standing.proofs.Counting.{counted-all}
 use Rattle.steps.specs.Steps.{rekeyed, nextPlaces, startsOf}
-use Rattle.pagework.specs.Pages.{entriesOf, sparesOf, IsLeaf}
-use Rattle.pagework.proofs.Read.{entries-up, entry-in, last-append}
-use Rattle.pagework.proofs.Items.{up-take}
+use Rattle.newpages.specs.Pages.{entriesOf, sparesOf, IsLeaf}
+use Rattle.newpages.proofs.Read.{entries-up, entry-in, last-append}
+use Rattle.newpages.proofs.Items.{up-take}
 use Rattle.records.proofs.Marks.{none-in, touched-then}
 use Rattle.split.specs.Sides.{topped, nextCut}
 use Rattle.split.specs.Moves.{Gathered, GatherReady, Flagged, EnterReady, Entered}

@@ -1,17 +1,17 @@
 -- The local rules of a page whose child was split, with the child before a key or last.
 -- Assumes nothing.
-use Prim.Native.Nat.{ℕ, suc, _+_, _≤_, _<_}
+use Prim.Native.Nat.{ℕ, suc, _≤_, _<_}
 use mathlib.Core.Path.{_≡_, refl, sym, subst}
 use mathlib.Core.List.{List, [], _∷_, _++_, map, append-assoc}
 use Rattle.words.specs.Lists.{All, Pairs}
 use Rattle.regions.specs.declared.Region.{Region}
 use Rattle.xrtree.specs.Tree.{Entry, Key, Leaf, Tree, regionOf}
-use Rattle.xrtree.proofs.Claims.{leafAt, pageAt, Over}
-use Rattle.xrtree.proofs.Here.{Here}
-use Rattle.xrtree.proofs.Splice.{loAfter, keyWith, marked, trim, raised}
-use Rattle.xrtree.proofs.Whole.{Part, Post, fillKids, fillLast, fill, hiPost}
-use Rattle.xrtree.proofs.Whole.Post.{atKey, atEnd}
-use Rattle.xrtree.proofs.Split.{part-at, part-end, fresh, leaf-split-mid, leaf-split-last, inner-split-mid, inner-split-last}
+use Rattle.xrtree.specs.Claims.{leafAt, pageAt, Over}
+use Rattle.xrtree.specs.Local.{Here, Part}
+use Rattle.xrtree.specs.Holes.{loAfter, Post, fillKids, fillLast, fill, hiPost}
+use Rattle.xrtree.specs.Moves.{keyWith, marked, trim, raised, fresh}
+use Rattle.xrtree.specs.Holes.Post.{atKey, atEnd}
+use Rattle.xrtree.proofs.Split.{part-at, part-end, leaf-split-mid, leaf-split-last, inner-split-mid, inner-split-last}
 use Rattle.steps.specs.Steps.{rekeyed}
 use Rattle.split.specs.Sides.{topped, nextCut}
 

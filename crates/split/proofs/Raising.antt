@@ -10,15 +10,15 @@ use Rattle.words.specs.Lists.{count}
 use Rattle.words.proofs.Counted.{count-append}
 use Rattle.words.proofs.Listed.{all-mono}
 use Rattle.xrtree.specs.Tree.{Key, Tree}
-use Rattle.xrtree.proofs.Splice.{keyWith, trim, raised, raisedPlaces}
+use Rattle.xrtree.specs.Moves.{keyWith, trim, raised, raisedPlaces}
 use Rattle.pages.specs.Layout.{markOf, fillOf, nextOf}
 use Rattle.pages.specs.declared.KeyWords.{KeyWords}
 use Rattle.image.specs.Decode.{keyWordsAt}
-use Rattle.holding.specs.Held.{KeyHeld, KeysHeld}
+use Rattle.holding.specs.Held.{KeyHeld, KeysHeld, keyRecords}
 use Rattle.holding.proofs.Chains.{chain-range}
-use Rattle.holding.proofs.Frames.{keyRecords, key-frame, keys-frame}
-use Rattle.pagework.specs.Pages.{putFor, keysOf, childrenOf, IsInner}
-use Rattle.pagework.proofs.Read.{keys-long}
+use Rattle.holding.proofs.Frames.{key-frame, keys-frame}
+use Rattle.newpages.specs.Pages.{putFor, keysOf, childrenOf, IsInner}
+use Rattle.newpages.proofs.Read.{keys-long}
 use Rattle.records.specs.Touched.{Touched, Uses, Ends}
 use Rattle.records.specs.Kept.{Lifts, Apart}
 use Rattle.records.specs.declared.Lifted.{Lifted}

@@ -13,13 +13,14 @@ use Rattle.words.proofs.Counted.{count-append, count-same, sum-same, sum-count,
 use Rattle.regions.specs.Positions.{stabs}
 use Rattle.regions.specs.declared.Region.{Region}
 use Rattle.xrtree.specs.Tree.{Key, weave, listed, listPages, listRecords, pagePlaces, recordPlaces}
-use Rattle.xrtree.proofs.Splice.{loAfter, keyWith}
-use Rattle.xrtree.proofs.Whole.{Post, fillKids, fillLast, hiPost, beforeKids, afterKids}
-use Rattle.xrtree.proofs.Whole.Post.{atKey, atEnd}
+use Rattle.xrtree.specs.Holes.{loAfter, Post, fillKids, fillLast, hiPost}
+use Rattle.xrtree.specs.Moves.{keyWith}
+use Rattle.xrtree.proofs.Whole.{beforeKids, afterKids}
+use Rattle.xrtree.specs.Holes.Post.{atKey, atEnd}
 use Rattle.pages.specs.Layout.{pageOf, markOf, fillOf, childIn, pageUsed, recordUsed}
 use Rattle.pages.specs.declared.KeyWords.{KeyWords}
-use Rattle.holding.specs.Held.{KeyHeld, kidPlaces, placeOf}
-use Rattle.holding.proofs.Frames.{keyRecords, keys-frame}
+use Rattle.holding.specs.Held.{KeyHeld, kidPlaces, placeOf, keyRecords}
+use Rattle.holding.proofs.Frames.{keys-frame}
 use Rattle.standing.specs.Stands.{Stands}
 use Rattle.standing.proofs.Counting.{all-counted, place-once, counted-used}
 use Rattle.standing.proofs.Child.{aroundHole, stands-hole}
@@ -28,8 +29,8 @@ use Rattle.steps.proofs.Listed.{page-listed, pages-keyless}
 use Rattle.steps.proofs.Stays.{pages-root, pagesBelow, ownRecords, records-parts}
 use Rattle.store.specs.Store.{FirstFree}
 use Rattle.store.proofs.Places.{Fair, first-free}
-use Rattle.pagework.specs.Pages.{keysOf}
-use Rattle.pagework.proofs.Read.{child-in}
+use Rattle.newpages.specs.Pages.{keysOf}
+use Rattle.newpages.proofs.Read.{child-in}
 use Rattle.records.specs.Touched.{Touched, inUse, Uses}
 use Rattle.records.proofs.Marks.{none-in}
 use Rattle.split.specs.Sides.{toppedPlaces, nextCut}

@@ -11,9 +11,10 @@ use Rattle.words.proofs.Tests.{and-left, and-right, and-both}
 use Rattle.words.proofs.Listed.{all-left, all-right}
 use Rattle.xrtree.specs.Tree.{Entry, Key, Leaf, Tree, listed, listPages, listRecords}
 use Rattle.xrtree.specs.Rules.{firstPlace, linked}
-use Rattle.xrtree.proofs.Claims.{leafAt}
-use Rattle.xrtree.proofs.Whole.{Post, fillKids, fillLast, beforeKids, afterKids}
-use Rattle.xrtree.proofs.Whole.Post.{atKey, atEnd}
+use Rattle.xrtree.specs.Claims.{leafAt}
+use Rattle.xrtree.specs.Holes.{Post, fillKids, fillLast}
+use Rattle.xrtree.proofs.Whole.{beforeKids, afterKids}
+use Rattle.xrtree.specs.Holes.Post.{atKey, atEnd}
 use Rattle.holding.specs.Held.{EveryKid, Held}
 use Rattle.holding.proofs.Frames.{SamePage, SameRecord, held-frame}
 use Rattle.standing.specs.Stands.{Places}

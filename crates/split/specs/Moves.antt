@@ -6,21 +6,18 @@ use mathlib.Core.Bool.{Bool, _&&_}
 use mathlib.Core.List.{List, [], _∷_, _++_, map}
 use lib.Dec.{eqb}
 use lib.ListN.{length, take, drop}
-use Rattle.words.specs.Lists.{All, count}
-use Rattle.words.proofs.Counted.{sumTo}
+use Rattle.words.specs.Lists.{All, count, sumTo}
 use Rattle.regions.specs.Positions.{stabs}
 use Rattle.regions.specs.declared.Region.{Region}
 use Rattle.xrtree.specs.Tree.{Entry, Key, Tree}
-use Rattle.xrtree.proofs.Claims.{pairIs}
-use Rattle.xrtree.proofs.Splice.{keyWith, marked, trim, raised, raisedPlaces}
-use Rattle.xrtree.proofs.Whole.{Post, fillKids, fill}
-use Rattle.xrtree.proofs.Split.{fresh}
-use Rattle.pages.specs.Layout.{markOf, fillOf, nextOf}
+use Rattle.xrtree.specs.Claims.{pairIs}
+use Rattle.xrtree.specs.Moves.{keyWith, marked, trim, raised, raisedPlaces, fresh}
+use Rattle.xrtree.specs.Holes.{Post, fillKids, fill}
+use Rattle.pages.specs.Layout.{markOf, fillOf, nextOf, imageWords, recordCount}
 use Rattle.pages.specs.declared.KeyWords.{KeyWords}
 use Rattle.image.specs.Read.{entriesFrom}
-use Rattle.holding.specs.Held.{KeyHeld, KeysHeld, placeOf, PageHeld}
-use Rattle.holding.proofs.Frames.{keyRecords}
-use Rattle.pagework.specs.Pages.{entriesOf, sparesOf, keysOf, childrenOf, IsLeaf, IsInner}
+use Rattle.holding.specs.Held.{KeyHeld, KeysHeld, placeOf, PageHeld, keyRecords}
+use Rattle.newpages.specs.Pages.{entriesOf, sparesOf, keysOf, childrenOf, IsLeaf, IsInner}
 use Rattle.records.specs.Touched.{Touched, inUse, Uses}
 use Rattle.steps.specs.Steps.{rekeyed, nextPlaces}
 use Rattle.split.specs.Sides.{topped, nextCut}
@@ -28,7 +25,7 @@ use Rattle.split.specs.declared.Risen.{Risen}
 
 -- how many records are in use
 abbrev pub usedRecords : List ℕ → ℕ
-usedRecords w = sumTo (inUse w) 500
+usedRecords w = sumTo (inUse w) recordCount
 
 -- an entry in no list that k stabs
 unfoldable pub freshAt : ℕ → Entry → Bool
@@ -37,16 +34,16 @@ freshAt k e = eqb (e .flag) 0 && stabs k (e .region)
 -- GATHERED: the regions of the first n entries that are in no list and that k stabs are k's list, each in a record that was free
 pub record Gathered (w w′ : List ℕ) (k : ℕ) (es : List Entry) (t : KeyWords) : Type 0 where
   pub places : List ℕ
-  pub range : All (λ q. (1 ≤ q) × (q ≤ 500)) places
+  pub range : All (λ q. (1 ≤ q) × (q ≤ recordCount)) places
   pub touched : Touched w w′ places
   pub uses : Uses w w′ places []
   pub held : KeyHeld w′ t (keyWith k places (fresh k es))
 
 pub record GatherReady (w leaf : List ℕ) (n k : ℕ) : Type 0 where
-  pub long : length w ≡ 12288
+  pub long : length w ≡ imageWords
   pub few : n ≤ 9
   pub ends : All (λ (e : Entry). 1 ≤ e .region .end) (entriesFrom leaf 0 n)
-  pub room : usedRecords w + length (fresh k (entriesFrom leaf 0 n)) ≤ 500
+  pub room : usedRecords w + length (fresh k (entriesFrom leaf 0 n)) ≤ recordCount
 
 -- FLAGGED: the first n entries that k stabs have flag 1
 abbrev pub Flagged : List ℕ → ℕ → ℕ → List ℕ → Type 0

@@ -6,9 +6,9 @@ use Rattle.words.specs.Lists.{takeWhile, dropWhile}
 use Rattle.regions.specs.Positions.{stabs}
 use Rattle.regions.specs.declared.Region.{Region}
 use Rattle.xrtree.specs.Tree.{Key}
-use Rattle.xrtree.proofs.Splice.{keyWith, movedPlaces, keptPlaces}
-use Rattle.xrtree.proofs.Whole.{Post}
-use Rattle.xrtree.proofs.Whole.Post.{atKey, atEnd}
+use Rattle.xrtree.specs.Moves.{keyWith, movedPlaces, keptPlaces}
+use Rattle.xrtree.specs.Holes.{Post}
+use Rattle.xrtree.specs.Holes.Post.{atKey, atEnd}
 
 module _ {A : Type 0} where
   -- the new key k, whose own list is l at the places ps

@@ -4,7 +4,7 @@ ghost use mathlib.Core.Path.{_≡_};
 ghost use mathlib.Core.Logic.{_≢_};
 ghost use Prim.Native.Nat.{ℕ, suc, _+_, _-_, _≤_, _<_};
 ghost use lib.ListN.{length, getD};
-ghost use Rattle.pages.specs.Layout.{fillOf, regionIn, entryWord, childIn};
+ghost use Rattle.pages.specs.Layout.{fillOf, regionIn, entryWord, childIn, imageWords, pageCount};
 ghost use Rattle.image.specs.Read.{entryAt, entriesFrom};
 ghost use Rattle.image.specs.Decode.{keyWordsAt};
 ghost use Rattle.xrtree.specs.Rules.{keyBetween};
@@ -17,12 +17,12 @@ use regions::Region;
 
 // An inner page whose middle key has all that it stabs, and that key.
 pub struct Risen {
-    pub page: [u32; 57],
+    pub page: [u32; pages::PAGE_WIDTH],
     pub key: KeyWords,
 }
 
 // Entry j of a leaf, without its flag.
-fn entry_of(ws: [u32; 57], j: usize) -> Region
+fn entry_of(ws: [u32; pages::PAGE_WIDTH], j: usize) -> Region
     requires { ⌜ j < 9 ⌝ }
     ensures { λ r. ⌜ r ≡ regionIn ws (entryWord j) ⌝ }
 {
@@ -36,7 +36,7 @@ fn entry_of(ws: [u32; 57], j: usize) -> Region
 }
 
 // Key j of an inner page.
-fn key_of(ws: [u32; 57], j: usize) -> KeyWords
+fn key_of(ws: [u32; pages::PAGE_WIDTH], j: usize) -> KeyWords
     requires { ⌜ j < 9 ⌝ }
     ensures { λ r. ⌜ r ≡ keyWordsAt ws j ⌝ }
 {
@@ -50,7 +50,7 @@ fn key_of(ws: [u32; 57], j: usize) -> KeyWords
 }
 
 // Child j of an inner page.
-fn child_of(ws: [u32; 57], j: usize) -> u32
+fn child_of(ws: [u32; pages::PAGE_WIDTH], j: usize) -> u32
     requires { ⌜ j < 10 ⌝ }
     ensures { λ r. ⌜ r ≡ childIn ws j ⌝ }
 {
@@ -58,7 +58,7 @@ fn child_of(ws: [u32; 57], j: usize) -> u32
 }
 
 // Whether entry j is in no list and k stabs it.
-fn is_fresh(ws: [u32; 57], j: usize, k: u32) -> bool
+fn is_fresh(ws: [u32; pages::PAGE_WIDTH], j: usize, k: u32) -> bool
     requires { ⌜ j < 9 ⌝ }
     ensures { λ t. ⌜ t ≡ freshAt k (entryAt ws j) ⌝ }
 {
@@ -80,7 +80,7 @@ fn key_between(last: u32, first: u32) -> u32
 }
 
 // The key between entries c - 1 and c of a leaf.
-fn cut_key(leaf: [u32; 57], c: usize) -> u32
+fn cut_key(leaf: [u32; pages::PAGE_WIDTH], c: usize) -> u32
     requires { ⌜ (1 ≤ c) × (c < 9) × (entryAt leaf (c - 1) .region .start < entryAt leaf c .region .start) ⌝ }
     ensures { λ r. ⌜ r ≡ keyBetween (entryAt leaf (c - 1) .region .start) (entryAt leaf c .region .start) ⌝ }
 {
@@ -88,7 +88,7 @@ fn cut_key(leaf: [u32; 57], c: usize) -> u32
 }
 
 // Of the first n entries, those in no list that k stabs come into k's list: from the last to the first, so that each goes in front.
-fn gather(img: &mut [u32], leaf: [u32; 57], n: usize, k: u32) -> KeyWords
+fn gather(img: &mut [u32], leaf: [u32; pages::PAGE_WIDTH], n: usize, k: u32) -> KeyWords
     requires { ⌜ GatherReady (now img) leaf n k ⌝ }
     ensures { λ t. ⌜ Gathered (now (img .entry)) (now (img .exit)) k (entriesFrom leaf 0 n) t ⌝ }
 {
@@ -110,7 +110,7 @@ fn gather(img: &mut [u32], leaf: [u32; 57], n: usize, k: u32) -> KeyWords
 }
 
 // The flags of the first n entries, now that k is a key.
-fn flagged(leaf: [u32; 57], n: usize, k: u32) -> [u32; 57]
+fn flagged(leaf: [u32; pages::PAGE_WIDTH], n: usize, k: u32) -> [u32; pages::PAGE_WIDTH]
     requires { ⌜ (fillOf leaf ≤ 9) × (n ≤ fillOf leaf) ⌝ }
     ensures { λ s. ⌜ Flagged leaf n k s ⌝ }
 {
@@ -119,7 +119,7 @@ fn flagged(leaf: [u32; 57], n: usize, k: u32) -> [u32; 57]
     while j < n {
         let r = entry_of(leaf, j);
         if regions::stabs(k, r) {
-            let s = pagework::set_flag(ws, j, 1);
+            let s = newpages::set_flag(ws, j, 1);
             ws = s;
         }
         j += 1;
@@ -128,8 +128,8 @@ fn flagged(leaf: [u32; 57], n: usize, k: u32) -> [u32; 57]
 }
 
 // Key c of a page with all that it stabs of the lists on its left, from the last to the first, so that each goes in front.
-fn raise(img: &mut [u32], page: [u32; 57], c: usize) -> Risen
-    requires { ⌜ (length (now img) ≡ 12288) × (fillOf page ≤ 9) × (c < fillOf page) ⌝ }
+fn raise(img: &mut [u32], page: [u32; pages::PAGE_WIDTH], c: usize) -> Risen
+    requires { ⌜ (length (now img) ≡ imageWords) × (fillOf page ≤ 9) × (c < fillOf page) ⌝ }
     requires { ⌜ ((h : ℕ) × RaiseReady (now img) page c h) ⌝ }
     ensures { λ t. ⌜ ((h : ℕ) (g : RaiseReady (now (img .entry)) page c h) → Raised (now (img .entry)) (now (img .exit)) page c h g t) ⌝ }
 {
@@ -142,7 +142,7 @@ fn raise(img: &mut [u32], page: [u32; 57], c: usize) -> Risen
         let from = key_of(page, j);
         let l = records::lift(img, from, key, x);
         let gave = l.from;
-        let s = pagework::set_key(ws, j, gave);
+        let s = newpages::set_key(ws, j, gave);
         ws = s;
         key = l.to;
     }
@@ -150,8 +150,14 @@ fn raise(img: &mut [u32], page: [u32; 57], c: usize) -> Risen
 }
 
 // A key into a page as key i, with the page r on its right; the key behind it gives it what it stabs.
-fn enter_key(img: &mut [u32], page: [u32; 57], i: usize, k: KeyWords, r: u32) -> [u32; 57]
-    requires { ⌜ (length (now img) ≡ 12288) × (fillOf page ≤ 8) × (i ≤ fillOf page) ⌝ }
+fn enter_key(
+    img: &mut [u32],
+    page: [u32; pages::PAGE_WIDTH],
+    i: usize,
+    k: KeyWords,
+    r: u32,
+) -> [u32; pages::PAGE_WIDTH]
+    requires { ⌜ (length (now img) ≡ imageWords) × (fillOf page ≤ 8) × (i ≤ fillOf page) ⌝ }
     requires { ⌜ ((h : ℕ) × EnterReady (now img) page i k h) ⌝ }
     ensures { λ t. ⌜ ((h : ℕ) (g : EnterReady (now (img .entry)) page i k h) → Entered (now (img .entry)) (now (img .exit)) page i k r h g t) ⌝ }
 {
@@ -160,23 +166,23 @@ fn enter_key(img: &mut [u32], page: [u32; 57], i: usize, k: KeyWords, r: u32) ->
         let l = records::lift(img, next, k, k.key);
         let gave = l.from;
         let took = l.to;
-        let cut = pagework::set_key(page, i, gave);
-        return pagework::inner_with(cut, i, took, r);
+        let cut = newpages::set_key(page, i, gave);
+        return newpages::inner_with(cut, i, took, r);
     }
-    pagework::inner_with(page, i, k, r)
+    newpages::inner_with(page, i, k, r)
 }
 
 // The two parts of a page and the page above them.
 fn store_split(
     img: &mut [u32],
     p: u32,
-    left: [u32; 57],
+    left: [u32; pages::PAGE_WIDTH],
     r: u32,
-    right: [u32; 57],
+    right: [u32; pages::PAGE_WIDTH],
     q: u32,
-    above: [u32; 57],
+    above: [u32; pages::PAGE_WIDTH],
 )
-    requires { ⌜ (length (now img) ≡ 12288) × (1 ≤ p) × (p ≤ 160) × (1 ≤ r) × (r ≤ 160) × (1 ≤ q) × (q ≤ 160) × (p ≢ r) × (p ≢ q) × (r ≢ q) ⌝ }
+    requires { ⌜ (length (now img) ≡ imageWords) × (1 ≤ p) × (p ≤ pageCount) × (1 ≤ r) × (r ≤ pageCount) × (1 ≤ q) × (q ≤ pageCount) × (p ≢ r) × (p ≢ q) × (r ≢ q) ⌝ }
     ensures { λ _. ⌜ Stored (now (img .entry)) (now (img .exit)) p left r right q above ⌝ }
 {
     store::store_page(img, p, left);
@@ -198,8 +204,8 @@ pub fn leaf(img: &mut [u32], path: [u32; 4], at: usize, i: usize, c: usize)
     let key = gather(img, leaf, c + 1, k);
     let ws = flagged(leaf, c + 1, k);
     let above = enter_key(img, page, i, key, r);
-    let left = pagework::leaf_left(ws, c, r);
-    let right = pagework::leaf_right(ws, c);
+    let left = newpages::leaf_left(ws, c, r);
+    let right = newpages::leaf_right(ws, c);
     store_split(img, p, left, r, right, q, above);
 }
 
@@ -217,7 +223,7 @@ pub fn inner(img: &mut [u32], path: [u32; 4], at: usize, i: usize, c: usize)
     let key = risen.key;
     let ws = risen.page;
     let above = enter_key(img, page, i, key, r);
-    let left = pagework::inner_left(ws, c);
-    let right = pagework::inner_right(ws, c);
+    let left = newpages::inner_left(ws, c);
+    let right = newpages::inner_right(ws, c);
     store_split(img, p, left, r, right, q, above);
 }

@@ -16,12 +16,12 @@ use Rattle.regions.specs.Positions.{wellFormed, nested}
 use Rattle.regions.specs.declared.Region.{Region}
 use Rattle.xrtree.specs.Tree.{Tree, regions, keysOf, leaves, recordPlaces}
 use Rattle.xrtree.specs.Rules.{filled, linked, startsFirst, rule1, rule2, rule3, rule4, rule5, rule6, placed}
-use Rattle.xrtree.proofs.Claims.{Claim, In, Proper}
-use Rattle.xrtree.proofs.Local.{ListIs, NoLeaf, NoKey, FlagsAre}
+use Rattle.xrtree.specs.Claims.{Claim, In, Proper}
+use Rattle.xrtree.specs.Local.{ListIs, NoLeaf, NoKey, FlagsAre, FirstIs, Sound}
 use Rattle.xrtree.proofs.Here.{here-all}
 use Rattle.xrtree.proofs.Order.{order-in, rules-order}
 use Rattle.xrtree.proofs.Rules.{over-rising, set-proper, items-low, Ruled, rules-good, good-rules}
-use Rattle.xrtree.proofs.Whole.{FirstIs, Sound, good-sound, sound-good}
+use Rattle.xrtree.proofs.Whole.{good-sound, sound-good}
 use Rattle.pages.specs.Layout.{rootOf, heightOf, recordCount, recordUsed}
 use Rattle.image.specs.Read.{readTree, depthOf, treeOf, setOf}
 use Rattle.image.specs.Valid.{sized}

@@ -174,8 +174,6 @@ used-no w q n x e f k =
     rw (a, eq-yes (recordEnd (recordOf w (suc q))) 0 (rw a at (sym e ∙ f))) (omega arith)
 
 -- DOWN A PAGE: the fills of a child
-pub fills-leaf : (w : List ℕ) (l p : ℕ) → Fills l w p → Fills 0 w p
-fills-leaf w l p f = (f .0, tt)
 
 pub fills-child : (w : List ℕ) (d l p i n y : ℕ) → l ≡ suc d → Fills l w p → n ≡ fillOf (pageOf w p) → i ≤ n → y ≡ childIn (pageOf w p) i → Fills d w y
 fills-child w d l p i n y q f e h g = rw g (down (rw q at f))

@@ -7,7 +7,7 @@ ghost use Prim.Native.Nat.{_+_, _<_};
 ghost use lib.Dec.{T, eqb};
 ghost use Rattle.words.specs.Lists.{all};
 ghost use Rattle.xrtree.specs.Rules.{sameRegion, pairRight, rule6};
-ghost use Rattle.pages.specs.Layout.{pageOf, fillOf};
+ghost use Rattle.pages.specs.Layout.{pageOf, fillOf, recordCount};
 ghost use Rattle.image.specs.Read.{entryAt, entriesFrom, keyAt, setOf};
 ghost use Rattle.image.specs.Shape.{shapely, listsRight};
 ghost use Rattle.stablists.specs.Pass.{Fills, FillsBelow, bad, isHome, step, meet, follow, firstRegion, regionsAt, between, flagHere, begun, ended, keyPass, passAt, usedTo};
@@ -83,7 +83,7 @@ fn take_record(img: &[u32], r: Region, t: Trail) -> Trail
     if at < 1 {
         return failed();
     }
-    if 500 < at {
+    if pages::RECORD_COUNT < at {
         return failed();
     }
     if left < 1 {
@@ -305,11 +305,11 @@ fn lists(img: &[u32], depth: usize, p: u32, low: usize, high: usize, t: Trail) -
 
 // How many stab records are not free: as many must be met, so that none is in two lists and none in no list.
 fn used_records(img: &[u32]) -> usize
-    ensures { λ r. ⌜ r ≡ usedTo (now (img .entry)) 500 ⌝ }
+    ensures { λ r. ⌜ r ≡ usedTo (now (img .entry)) recordCount ⌝ }
 {
     let mut n: usize = 0;
     let mut q: u32 = 0;
-    while q < 500 {
+    while q < pages::RECORD_COUNT {
         q += 1;
         if pages::record_end(img, q) != 0 {
             n += 1;

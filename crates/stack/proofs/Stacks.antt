@@ -1,7 +1,7 @@
 -- The stack on plain lists: regions that hold one place end the sooner the later they start, so popping from the top is a filter; those that hold the next place
 -- are those of them that end behind it, and those that start on the way, entry by entry.
 -- Assumes nothing.
-use Prim.Native.Nat.{ℕ, suc, _+_, _≤_, _<_}
+use Prim.Native.Nat.{ℕ, suc, _≤_, _<_}
 use mathlib.Core.Path.{_≡_, sym, ap, ap₂, _∙_, subst}
 use mathlib.Core.Bool.{true, false, _&&_}
 use mathlib.Core.List.{List, [], _∷_, _++_, append-nil}

@@ -6,7 +6,8 @@ use mathlib.Core.Bool.{Bool, cond, _&&_}
 use mathlib.Core.List.{List, map}
 use lib.ListN.{length}
 use Rattle.words.specs.Lists.{filter}
-use Rattle.regions.specs.Calls.{Pair, room, pairsWith, pairOf, pairWords, pairWidth}
+use Rattle.regions.specs.Limits.{pairWidth}
+use Rattle.regions.specs.Calls.{Pair, room, pairsWith, pairOf, pairWords}
 use Rattle.regions.specs.Desk.{isPast}
 use Rattle.regions.specs.declared.Region.{Region}
 use Rattle.regions.specs.declared.Kind.{Kind}

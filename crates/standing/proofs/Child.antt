@@ -1,10 +1,9 @@
 -- Going down into a tree and coming back: what stands rightly as a whole stands rightly at any page below, with the rest around it; and a part that a step
 -- has changed, at the same place and with the same regions, makes the whole stand again.
 -- Assumes nothing.
-use Prim.Native.Nat.{ℕ, zero, suc, _+_, _≤_, _<_}
-use mathlib.Core.Path.{_≡_, refl, sym, ap, ap₂, _∙_, subst}
-use mathlib.Core.Bool.{Bool, cond}
-use mathlib.Core.List.{List, [], _∷_, _++_, append-nil, append-assoc}
+use Prim.Native.Nat.{ℕ, zero, suc, _≤_}
+use mathlib.Core.Path.{_≡_, refl, sym, ap, _∙_, subst}
+use mathlib.Core.List.{List, [], _∷_, _++_, append-assoc}
 use lib.Dec.{T}
 use lib.ListN.{length, length-append}
 use native.Mathlib.Omega.{arith}
@@ -12,19 +11,17 @@ use Rattle.words.specs.Lists.{All, Pairs, count}
 use Rattle.words.proofs.Listed.{all-every, all-left, all-right, pairs-left, pairs-right}
 use Rattle.words.proofs.Counted.{count-append}
 use Rattle.regions.specs.declared.Region.{Region}
-use Rattle.xrtree.specs.Tree.{Entry, Key, Leaf, Inner, Tree, Listing, weave, listed, listRegions, listLeaves, listPages, listRecords, regions, leaves, pagePlaces, recordPlaces}
+use Rattle.xrtree.specs.Tree.{Key, Leaf, Tree, Listing, listed, listRegions, listLeaves, listPages, listRecords, regions, leaves, pagePlaces, recordPlaces}
 use Rattle.xrtree.specs.Rules.{linked}
-use Rattle.xrtree.proofs.Claims.{Over, Fits, Between, Within}
-use Rattle.xrtree.proofs.Local.{ListIs, NoLeaf, NoKey, FlagsAre}
-use Rattle.xrtree.proofs.Here.{Here}
-use Rattle.xrtree.proofs.Splice.{loAfter}
-use Rattle.xrtree.proofs.Whole.{Part, FirstIs, Post, fillKids, fillLast, fill, hiPost, up, Ctx, plug, before, after, beforeKids, afterKids, loAt, hiAt, hole, here-plug, listed-parts, listed-plug}
-use Rattle.xrtree.proofs.Whole.Post.{atKey, atEnd}
-use Rattle.pages.specs.Layout.{pageOf, recordOf, pageUsed, recordUsed}
-use Rattle.holding.specs.Held.{EveryKid, placeOf, Held}
+use Rattle.xrtree.specs.Claims.{Over, Fits, Between, Within}
+use Rattle.xrtree.specs.Local.{ListIs, NoLeaf, NoKey, FlagsAre, Here, FirstIs}
+use Rattle.xrtree.specs.Holes.{Post, fillKids, fillLast, up, Ctx, plug, loAt, hiAt}
+use Rattle.xrtree.proofs.Whole.{before, after, hole, here-plug, listed-parts, listed-plug}
+use Rattle.xrtree.specs.Holes.Post.{atKey, atEnd}
+use Rattle.holding.specs.Held.{EveryKid, placeOf}
 use Rattle.holding.proofs.Frames.{SamePage, SameRecord}
 use Rattle.holding.proofs.Holes.{every-hole, held-hole}
-use Rattle.standing.specs.Stands.{top, Around, Places, Roomy, Stands, Spares}
+use Rattle.standing.specs.Stands.{top, Around, Roomy, Stands, Spares}
 use Rattle.standing.proofs.Counting.{all-counted, places-same}
 
 -- around a part: the rest of the tree, and what stands around the tree

@@ -1,16 +1,14 @@
 -- Places by counts: the order of a list does not matter, and rule 7's test says the same.
 -- Assumes nothing.
-use Prim.Native.Nat.{ℕ, zero, suc, _+_, _≤_, _<_}
+use Prim.Native.Nat.{ℕ, zero, suc, _≤_, _<_}
 use mathlib.Core.Path.{_≡_, refl, sym, ap, _∙_}
-use mathlib.Core.Logic.{_≢_}
-use mathlib.Core.Bool.{Bool, true, false, _&&_, cond}
-use mathlib.Core.List.{List, [], _∷_, _++_}
-use lib.Dec.{T, eqb, leb, leb→le, le→leb, eqb→eq, eqb-refl}
+use mathlib.Core.Bool.{Bool, true, false, cond}
+use mathlib.Core.List.{List, [], _∷_}
+use lib.Dec.{T, eqb, leb, leb→le, le→leb, eqb→eq}
 use native.Mathlib.Omega.{arith}
-use native.Mathlib.Decide.{ℕ-discrete}
 use Rattle.words.specs.Lists.{All, all, count}
 use Rattle.words.proofs.Tests.{T-of, by-test, and-left, and-right, and-both, eq-yes, eq-of, ne-of}
-use Rattle.words.proofs.Counted.{count-append, count-same, count-other, count-none, one, one-at-most}
+use Rattle.words.proofs.Counted.{count-same, count-other, one, one-at-most}
 use Rattle.xrtree.specs.Rules.{within, onceOrFree, placed}
 use Rattle.standing.specs.Stands.{Places}
 

@@ -1,34 +1,34 @@
 -- A valid image's tree stands, with nothing around it; and a tree that stands, with right fills and shares, makes the image valid and is what it means.
 -- Assumes nothing.
-use Prim.Native.Nat.{ℕ, zero, suc, _+_, _-_, _≤_, _<_}
-use mathlib.Core.Path.{_≡_, refl, sym, ap, ap₂, _∙_, subst}
-use mathlib.Core.Bool.{Bool, _&&_}
-use mathlib.Core.List.{List, [], _∷_, _++_, map, append-nil}
+use Prim.Native.Nat.{ℕ, zero, suc, _-_, _≤_, _<_}
+use mathlib.Core.Path.{_≡_, sym, ap, _∙_, subst}
+use mathlib.Core.Bool.{Bool}
+use mathlib.Core.List.{List, [], _∷_, _++_, append-nil}
 use lib.Dec.{T, leb, leb→le}
-use lib.ListN.{length, getD, length-append}
+use lib.ListN.{length, length-append}
 use native.Mathlib.Omega.{arith}
-use Rattle.words.specs.Lists.{All, Pairs, all, allPairs, count, sum}
-use Rattle.words.proofs.Tests.{T-of, of-T, and-left, and-right, and-both}
-use Rattle.words.proofs.Listed.{all-mono, all-every, all-left, all-right, all-append}
-use Rattle.words.proofs.Counted.{sumTo, sum-count, sum-at-most, count-append}
+use Rattle.words.specs.Lists.{All, Pairs, all, allPairs, count, sumTo}
+use Rattle.words.proofs.Tests.{and-left, and-right}
+use Rattle.words.proofs.Listed.{all-left, all-right}
+use Rattle.words.proofs.Counted.{sum-count, sum-at-most}
 use Rattle.regions.specs.Positions.{wellFormed, nested}
-use Rattle.regions.specs.Sets.{Set}
 use Rattle.regions.specs.declared.Region.{Region}
-use Rattle.xrtree.specs.Tree.{Entry, Key, Leaf, Inner, Tree, weave, listed, listRecords, listKeys, listRegions, regions, keysOf, leaves, pagePlaces, recordPlaces, regionOf, allKids}
+use Rattle.xrtree.specs.Tree.{Key, Tree, weave, listed, listRecords, regions, leaves, pagePlaces, recordPlaces, allKids}
 use Rattle.xrtree.specs.Rules.{within, filled, filledBelow, linked, startsFirst, rule2, rule3, rule4, rule5, rule6, sharesKept, placed}
-use Rattle.xrtree.proofs.Claims.{Good, Proper, Over, Fits}
+use Rattle.xrtree.specs.Claims.{Good, Over, Fits}
 use Rattle.xrtree.proofs.Here.{here-all}
-use Rattle.xrtree.proofs.Whole.{Part, Sound, good-sound, sound-good}
-use Rattle.xrtree.proofs.Rules.{Ruled, rules-good, good-rules}
+use Rattle.xrtree.specs.Local.{Sound}
+use Rattle.xrtree.proofs.Whole.{good-sound, sound-good}
+use Rattle.xrtree.proofs.Rules.{rules-good, good-rules}
 use Rattle.pages.specs.Layout.{rootOf, heightOf, sharesOf, pageUsed, recordUsed}
 use Rattle.image.specs.Read.{readTree, depthOf, treeOf, setOf}
 use Rattle.image.specs.Valid.{valid}
 use Rattle.image.proofs.Small.{Small, small-keys, small-ends}
 use Rattle.image.proofs.Facts.{Facts, valid-facts, facts-valid}
-use Rattle.holding.specs.Held.{EveryKid, placeOf, Held}
-use Rattle.holding.proofs.Reading.{Ends, Short, AllKeys, read-held, held-read, place-read}
-use Rattle.standing.specs.Stands.{top, Around, nothingAround, Places, Roomy, Stands}
-use Rattle.standing.proofs.Counting.{all-counted, placed-places, places-placed, places-same, place-once}
+use Rattle.holding.specs.Held.{EveryKid, placeOf}
+use Rattle.holding.proofs.Reading.{Ends, Short, AllKeys, read-held, held-read}
+use Rattle.standing.specs.Stands.{top, nothingAround, Places, Roomy, Stands}
+use Rattle.standing.proofs.Counting.{all-counted, placed-places, places-placed, place-once}
 
 -- LISTS ARE SHORT, since no record stands twice
 pub few : (used : ℕ → Bool) (ps : List ℕ) → Places used 500 ps → length ps ≤ 500

@@ -1,19 +1,18 @@
 -- A part of a tree that stands rightly in an image while a save or delete is under way: all rules but the fills and the shares.
 -- Assumes nothing.
-use Prim.Native.Nat.{ℕ, zero, suc, _+_, _≤_, _<_}
+use Prim.Native.Nat.{ℕ, zero, suc, _≤_, _<_}
 use mathlib.Core.Path.{_≡_}
 use mathlib.Core.Bool.{Bool, cond}
-use mathlib.Core.List.{List, [], _∷_, _++_}
+use mathlib.Core.List.{List, [], _++_}
 use lib.Dec.{T}
 use lib.ListN.{length}
 use Rattle.words.specs.Lists.{All, Pairs, count}
 use Rattle.regions.specs.declared.Region.{Region}
 use Rattle.xrtree.specs.Tree.{Leaf, Tree, regions, leaves, pagePlaces, recordPlaces}
 use Rattle.xrtree.specs.Rules.{linked}
-use Rattle.xrtree.proofs.Claims.{Over, Fits}
-use Rattle.xrtree.proofs.Here.{Here}
-use Rattle.xrtree.proofs.Whole.{Part}
-use Rattle.pages.specs.Layout.{rootOf, heightOf, sharesOf, pageOf, recordOf, pageUsed, recordUsed}
+use Rattle.xrtree.specs.Claims.{Over, Fits}
+use Rattle.xrtree.specs.Local.{Here, Part}
+use Rattle.pages.specs.Layout.{rootOf, heightOf, sharesOf, pageOf, recordOf, pageUsed, recordUsed, imageWords, pageCount, recordCount}
 use Rattle.holding.specs.Held.{Held, EveryKid}
 
 -- above every position
@@ -41,7 +40,7 @@ Roomy zero t = length (t .entries) ≤ 9
 Roomy (suc h) t = (length (t .kids) ≤ 9) × EveryKid (Roomy h) (t .kids) (t .last)
 
 pub record Stands (w : List ℕ) (rs : List Region) (h lo hi : ℕ) (t : Tree h) (o : Around) : Type 0 where
-  pub long : length w ≡ 12288
+  pub long : length w ≡ imageWords
   pub held : Held w h t
   pub roomy : Roomy h t
   pub part : Part rs h lo hi t
@@ -49,8 +48,8 @@ pub record Stands (w : List ℕ) (rs : List Region) (h lo hi : ℕ) (t : Tree h)
   pub pairs : Pairs Over (regions h t)
   pub well : All (Fits top) (regions h t)
   pub links : T (linked (o .before ++ (leaves h t ++ o .after)))
-  pub pages : Places (pageUsed w) 160 (pagePlaces h t ++ o .pages)
-  pub records : Places (recordUsed w) 500 (recordPlaces h t ++ o .records)
+  pub pages : Places (pageUsed w) pageCount (pagePlaces h t ++ o .pages)
+  pub records : Places (recordUsed w) recordCount (recordPlaces h t ++ o .records)
 
 -- what a step on the part leaves as it was: the image's length, its header, the pages and records around
 pub record Spares (w w′ : List ℕ) (o : Around) : Type 0 where

@@ -7,8 +7,9 @@ use native.Mathlib.Omega.{arith}
 use Rattle.words.specs.Lists.{count}
 use Rattle.words.proofs.Counted.{count-append}
 use Rattle.xrtree.specs.Tree.{Key, Tree, Listing, weave, listed, listRegions, listLeaves, listPages, listRecords, recordPlaces}
-use Rattle.xrtree.proofs.Whole.{Post, fill, beforeKids, afterKids, listed-parts}
-use Rattle.xrtree.proofs.Whole.Post.{atKey, atEnd}
+use Rattle.xrtree.specs.Holes.{Post, fill}
+use Rattle.xrtree.proofs.Whole.{beforeKids, afterKids, listed-parts}
+use Rattle.xrtree.specs.Holes.Post.{atKey, atEnd}
 use Rattle.steps.specs.Steps.{rekeyed, nextPlaces}
 
 module _ {B : Type 0} (L : Listing B) where

@@ -9,11 +9,12 @@ use Rattle.words.specs.Lists.{All, count}
 use Rattle.words.proofs.Listed.{all-left, all-right, all-every}
 use Rattle.words.proofs.Counted.{count-append, count-cons}
 use Rattle.xrtree.specs.Tree.{Key, Inner, Tree, weave, listed, listPages, listRecords, pagePlaces, recordPlaces}
-use Rattle.xrtree.proofs.Whole.{Post, fill, beforeKids, afterKids}
+use Rattle.xrtree.specs.Holes.{Post, fill}
+use Rattle.xrtree.proofs.Whole.{beforeKids, afterKids}
 use Rattle.pages.specs.Layout.{pageOf, fillOf}
 use Rattle.image.specs.Decode.{keysFrom}
-use Rattle.holding.specs.Held.{EveryKid, placeOf, LeafHeld, PageHeld, Held}
-use Rattle.holding.proofs.Frames.{SamePage, SameRecord, keyRecords, keys-frame, held-frame}
+use Rattle.holding.specs.Held.{EveryKid, placeOf, LeafHeld, PageHeld, Held, keyRecords}
+use Rattle.holding.proofs.Frames.{SamePage, SameRecord, keys-frame, held-frame}
 use Rattle.steps.proofs.Listed.{page-listed, pair-listed, pages-keyless}
 
 -- THE CHILDREN BESIDE are held as before

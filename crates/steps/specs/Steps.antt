@@ -1,18 +1,16 @@
 -- The local steps of a save or delete, each on one page and a child of it: what has to be there, and what is there afterwards.
 -- Assumes nothing.
-use Prim.Native.Nat.{ℕ, zero, suc, _+_, _≤_, _<_}
+use Prim.Native.Nat.{ℕ, zero, suc, _+_}
 use mathlib.Core.Path.{_≡_}
-use mathlib.Core.Bool.{Bool, false}
 use mathlib.Core.List.{List, [], _∷_, _++_, map}
 use lib.Dec.{T}
 use lib.ListN.{length, getD}
-use Rattle.words.specs.Lists.{All, lastOr}
+use Rattle.words.specs.Lists.{lastOr}
 use Rattle.regions.specs.declared.Region.{Region}
-use Rattle.xrtree.specs.Tree.{Entry, Key, Leaf, Inner, Tree, regions, pagePlaces, recordPlaces, keysIn, allKids}
+use Rattle.xrtree.specs.Tree.{Entry, Key, Inner, Tree, regions, pagePlaces, keysIn, allKids}
 use Rattle.xrtree.specs.Rules.{filledBelow, keyBetween}
-use Rattle.xrtree.proofs.Whole.{Post, fill, fillKids}
-use Rattle.xrtree.proofs.Whole.Post.{atKey, atEnd}
-use Rattle.pages.specs.Layout.{pageUsed, recordUsed}
+use Rattle.xrtree.specs.Holes.{Post, fill}
+use Rattle.xrtree.specs.Holes.Post.{atKey, atEnd}
 use Rattle.standing.specs.Stands.{Around, Stands, Spares}
 
 -- how many entries or keys a page holds; whether the pages below it hold 4 to 8

@@ -17,7 +17,7 @@ use Rattle.pages.specs.Layout.{rootOf, heightOf, sharesOf, pageOf, recordOf, ma
 use Rattle.pages.proofs.Placed.{page-word-at, record-word-at}
 use Rattle.image.specs.Read.{recordRegion}
 use Rattle.store.specs.Store.{putPage, freePage, recordWords, putRecord, setNext, freeRecord, setRoot, setHeight}
-use Rattle.store.proofs.Kept.{Kept, kept-set, kept-sets, SameHead, page-before, page-behind, record-before, record-behind, shares-behind, head-before, page-used-same, record-used-same, region-same}
+use Rattle.store.proofs.Kept.{Kept, kept-set, kept-sets, SameHead, page-before, page-behind, record-before, record-behind, shares-behind, head-before, record-used-same, region-same}
 
 -- a range within one page leaves the other pages; one within a record the other records
 page-apart : {w w′ : List ℕ} {lo hi : ℕ} → Kept w w′ lo hi → (p q : ℕ) → p ≢ q → 57 * p ≤ lo → hi ≤ 57 * p + 57 → pageOf w′ q ≡ pageOf w q
@@ -57,9 +57,6 @@ module _ (w : List ℕ) (p : ℕ) (ws : List ℕ) (fits : length ws ≡ 57) wher
   unfolding pageUsed
   put-page-used l h n = ap not (eq-no _ 0 (λ e. n (sym (ap markOf (put-page-here l h)) ∙ e)))
 
-  pub put-page-used-other : (q : ℕ) → p ≢ q → pageUsed (putPage w p ws) q ≡ pageUsed w q
-  put-page-used-other q n = page-used-same w (putPage w p ws) q (put-page-other q n)
-
   pub put-page-record-used : p ≤ 160 → (q : ℕ) → recordUsed (putPage w p ws) q ≡ recordUsed w q
   put-page-record-used h q = record-used-same w (putPage w p ws) q (put-page-record h q)
 
@@ -91,19 +88,10 @@ module _ (w : List ℕ) (p : ℕ) where
   unfolding pageUsed
   free-page-used l h = ap not (eq-yes _ 0 (free-page-mark l h))
 
-  pub free-page-used-other : (q : ℕ) → p ≢ q → pageUsed (freePage w p) q ≡ pageUsed w q
-  free-page-used-other q n = page-used-same w (freePage w p) q (free-page-other q n)
-
-  pub free-page-record-used : p ≤ 160 → (q : ℕ) → recordUsed (freePage w p) q ≡ recordUsed w q
-  free-page-record-used h q = record-used-same w (freePage w p) q (free-page-record h q)
-
 -- WORDS OF RECORDS leave every page and the header
 module _ {w w′ : List ℕ} {lo hi : ℕ} (k : Kept w w′ lo hi) (past : 9177 ≤ lo) where
   page-left : (p : ℕ) → p ≤ 160 → pageOf w′ p ≡ pageOf w p
   page-left p h = page-before k p (omega arith)
-
-  page-left-used : (p : ℕ) → p ≤ 160 → pageUsed w′ p ≡ pageUsed w p
-  page-left-used p h = page-used-same w w′ p (page-left p h)
 
   head-left : SameHead w w′
   head-left = head-before k (omega arith)
@@ -125,9 +113,6 @@ module _ (w : List ℕ) (q : ℕ) (r : Region) (next : ℕ) where
 
   pub put-record-other : (p : ℕ) → q ≢ p → recordOf (putRecord w q r next) p ≡ recordOf w p
   put-record-other p n = record-apart put-record-kept q p n (omega arith) (omega arith)
-
-  pub put-record-page-used : (p : ℕ) → p ≤ 160 → pageUsed (putRecord w q r next) p ≡ pageUsed w p
-  put-record-page-used p h = page-left-used put-record-kept (omega arith) p h
 
   pub put-record-used-other : (p : ℕ) → q ≢ p → recordUsed (putRecord w q r next) p ≡ recordUsed w p
   put-record-used-other p n = record-used-same w (putRecord w q r next) p (put-record-other p n)
@@ -194,9 +179,6 @@ module _ (w : List ℕ) (q next : ℕ) where
   unfolding recordUsed
   set-next-used p = ap (λ n. not (eqb n 0)) (set-next-end p)
 
-  pub set-next-page-used : (p : ℕ) → p ≤ 160 → pageUsed (setNext w q next) p ≡ pageUsed w p
-  set-next-page-used p h = page-left-used set-next-kept (omega arith) p h
-
 -- A RECORD IS GIVEN BACK
 module _ (w : List ℕ) (q : ℕ) where
   free-record-kept : Kept w (freeRecord w q) (9177 + 6 * q + 1) (9177 + 6 * q + 1 + 1)
@@ -233,9 +215,6 @@ module _ (w : List ℕ) (q : ℕ) where
   pub free-record-used-other : (p : ℕ) → q ≢ p → recordUsed (freeRecord w q) p ≡ recordUsed w p
   free-record-used-other p n = record-used-same w (freeRecord w q) p (free-record-other p n)
 
-  pub free-record-page-used : (p : ℕ) → p ≤ 160 → pageUsed (freeRecord w q) p ≡ pageUsed w p
-  free-record-page-used p h = page-left-used free-record-kept (omega arith) p h
-
 -- THE ROOT AND THE HEIGHT leave pages and records
 module _ {w w′ : List ℕ} {lo hi : ℕ} (k : Kept w w′ lo hi) (first : hi ≤ 2) where
   head-page : (p : ℕ) → 1 ≤ p → pageOf w′ p ≡ pageOf w p
@@ -256,9 +235,6 @@ module _ (w : List ℕ) (p : ℕ) where
   unfolding setRoot
   set-root-root l = getD-set-same w 0 p 0 (omega arith)
 
-  pub set-root-height : heightOf (setRoot w p) ≡ heightOf w
-  set-root-height = set-root-kept .above 1 (omega arith)
-
   pub set-root-shares : sharesOf (setRoot w p) ≡ sharesOf w
   set-root-shares = shares-behind set-root-kept (omega arith)
 
@@ -267,12 +243,6 @@ module _ (w : List ℕ) (p : ℕ) where
 
   pub set-root-record : (q : ℕ) → recordOf (setRoot w p) q ≡ recordOf w q
   set-root-record q = head-record set-root-kept (omega arith) q
-
-  pub set-root-page-used : (q : ℕ) → 1 ≤ q → pageUsed (setRoot w p) q ≡ pageUsed w q
-  set-root-page-used q h = page-used-same w (setRoot w p) q (set-root-page q h)
-
-  pub set-root-record-used : (q : ℕ) → recordUsed (setRoot w p) q ≡ recordUsed w q
-  set-root-record-used q = record-used-same w (setRoot w p) q (set-root-record q)
 
 module _ (w : List ℕ) (h : ℕ) where
   set-height-kept : Kept w (setHeight w h) 1 2
@@ -297,9 +267,3 @@ module _ (w : List ℕ) (h : ℕ) where
 
   pub set-height-record : (q : ℕ) → recordOf (setHeight w h) q ≡ recordOf w q
   set-height-record q = head-record set-height-kept (omega arith) q
-
-  pub set-height-page-used : (q : ℕ) → 1 ≤ q → pageUsed (setHeight w h) q ≡ pageUsed w q
-  set-height-page-used q l = page-used-same w (setHeight w h) q (set-height-page q l)
-
-  pub set-height-record-used : (q : ℕ) → recordUsed (setHeight w h) q ≡ recordUsed w q
-  set-height-record-used q = record-used-same w (setHeight w h) q (set-height-record q)

@@ -2,4 +2,3 @@ pub mod Turns
 pub mod Kept
 pub mod Frames
 pub mod Places
-pub mod Taken

@@ -1,61 +1,21 @@
 -- Rule 7 by counts: where fewer places are listed than there are, one is free; and what taking or giving back a place does to the rule.
 -- Assumes nothing.
-use Prim.Native.Nat.{ℕ, zero, suc, _<_, _≤_}
+use Prim.Native.Nat.{ℕ, _<_, _≤_}
 use mathlib.Core.Path.{_≡_, sym, ap, _∙_}
 use mathlib.Core.Logic.{_≢_}
 use mathlib.Core.Bool.{Bool, true, false}
 use mathlib.Core.List.{List, [], _∷_}
-use lib.Dec.{T, leb, eqb, leb→le, le→leb, eqb→eq}
 use lib.ListN.{length}
 use native.Mathlib.Omega.{arith}
 use native.Mathlib.Decide.{ℕ-discrete}
-use Rattle.words.specs.Lists.{all, All, count}
-use Rattle.words.proofs.Tests.{T-of, and-left, and-right, and-both, by-test, eq-yes}
+use Rattle.words.specs.Lists.{All, count}
 use Rattle.words.proofs.Counted.{one, count-same, count-other, count-more, sum-count, pigeon, one-at-most}
-use Rattle.xrtree.specs.Rules.{within, onceOrFree, placed}
 use Rattle.store.specs.Store.{FirstFree}
 
 -- rule 7 as facts: the listed places are in range, and each is listed as often as it is in use
 pub record Fair (used : ℕ → Bool) (n : ℕ) (ps : List ℕ) : Type 0 where
   pub range : All (λ q. (1 ≤ q) × (q ≤ n)) ps
   pub counts : (i : ℕ) → 1 ≤ i → i ≤ n → count i ps ≡ one (used i)
-
-range-of : (n : ℕ) (ps : List ℕ) → T (all (within 1 n) ps) → All (λ q. (1 ≤ q) × (q ≤ n)) ps
-unfolding all
-range-of n [] t = tt
-range-of n (p ∷ ps) t =
-    let h = and-left (within 1 n p) _ t in
-    ((leb→le 1 p (and-left (leb 1 p) _ h), leb→le p n (and-right (leb 1 p) _ h)), range-of n ps (and-right (within 1 n p) _ t))
-
-range-test : (n : ℕ) (ps : List ℕ) → All (λ q. (1 ≤ q) × (q ≤ n)) ps → T (all (within 1 n) ps)
-unfolding all
-range-test n [] a = tt
-range-test n (p ∷ ps) a = and-both (within 1 n p) _ (and-both (leb 1 p) _ (le→leb 1 p (a .0 .0)) (le→leb p n (a .0 .1))) (range-test n ps (a .1))
-
-counts-of : (used : ℕ → Bool) (n : ℕ) (ps : List ℕ) → T (onceOrFree used n ps) → (i : ℕ) → 1 ≤ i → i ≤ n → count i ps ≡ one (used i)
-unfolding onceOrFree
-counts-of used zero ps t i a b = absurd (omega arith)
-counts-of used (suc n) ps t i a b =
-    elim (ℕ-discrete i (suc n)) [
-      | yes e ↦ rw e (eqb→eq (count (suc n) ps) (one (used (suc n))) (and-left (eqb (count (suc n) ps) (one (used (suc n)))) _ t))
-      | no e ↦ counts-of used n ps (and-right (eqb (count (suc n) ps) (one (used (suc n)))) _ t) i a (omega arith)
-    ]
-
-counts-test : (used : ℕ → Bool) (n : ℕ) (ps : List ℕ) → ((i : ℕ) → 1 ≤ i → i ≤ n → count i ps ≡ one (used i)) → T (onceOrFree used n ps)
-unfolding onceOrFree
-counts-test used zero ps f = tt
-counts-test used (suc n) ps f =
-    and-both (eqb (count (suc n) ps) (one (used (suc n)))) _ (T-of (eq-yes _ _ (f (suc n) (omega arith) (omega arith))))
-    (counts-test used n ps (λ i a b. f i a (omega arith)))
-
-pub placed-fair : (used : ℕ → Bool) (n : ℕ) (ps : List ℕ) → T (placed used n ps) → Fair used n ps
-unfolding placed
-placed-fair used n ps t =
-    record { range = range-of n ps (and-left (all (within 1 n) ps) _ t); counts = counts-of used n ps (and-right (all (within 1 n) ps) _ t) }
-
-pub fair-placed : {used : ℕ → Bool} {n : ℕ} {ps : List ℕ} → Fair used n ps → T (placed used n ps)
-unfolding placed
-fair-placed {used} {n} {ps} f = and-both (all (within 1 n) ps) _ (range-test n ps (f .range)) (counts-test used n ps (f .counts))
 
 -- what is listed has what all that are listed have; what each listed number has, all have
 pub counted-has : (P : ℕ → Type 0) (x : ℕ) (ps : List ℕ) → All P ps → 0 < count x ps → P x
@@ -83,26 +43,6 @@ module _ {used : ℕ → Bool} {n : ℕ} {ps : List ℕ} (fair : Fair used n ps)
       not-none i a b z e =
           let u : one (used i) ≡ 1 = ap one (f .none e i b a) in
           omega (arith, fair .counts i a b)
-
-  -- a place in use is listed, once; a free one is not
-  pub listed-used : (i : ℕ) → 1 ≤ i → i ≤ n → used i ≡ true → count i ps ≡ 1
-  listed-used i a b u = fair .counts i a b ∙ ap one u
-
-  pub listed-free : (i : ℕ) → 1 ≤ i → i ≤ n → used i ≡ false → count i ps ≡ 0
-  listed-free i a b u = fair .counts i a b ∙ ap one u
-
-  pub used-listed : (i : ℕ) → 0 < count i ps → (1 ≤ i) × (i ≤ n) × (used i ≡ true)
-  used-listed i h =
-      let r = counted-has (λ q. (1 ≤ q) × (q ≤ n)) i ps (fair .range) h in
-      (r .0, r .1, by-test (used i) (λ t. t) (λ f. absurd (omega (arith, fair .counts i (r .0) (r .1) ∙ ap one f))))
-
-  -- a list of the same places in another order, and marks that agree
-  pub fair-same : (used′ : ℕ → Bool) (qs : List ℕ) → ((i : ℕ) → 1 ≤ i → i ≤ n → used′ i ≡ used i) → ((i : ℕ) → count i qs ≡ count i ps) → Fair used′ n qs
-  fair-same used′ qs u c =
-      record {
-        range = all-counted (λ q. (1 ≤ q) × (q ≤ n)) qs (λ x h. counted-has (λ q. (1 ≤ q) × (q ≤ n)) x ps (fair .range) (omega (arith, c x)));
-        counts = λ i a b. c i ∙ fair .counts i a b ∙ ap one (sym (u i a b));
-      }
 
   -- A PLACE IS TAKEN: it was free, is in use, and stands in the list once more
   pub fair-more : (used′ : ℕ → Bool) (q : ℕ) (qs : List ℕ) → 1 ≤ q → q ≤ n → used q ≡ false → used′ q ≡ true

@@ -6,27 +6,28 @@ use mathlib.Core.Bool.{Bool, true, false}
 use mathlib.Core.List.{List, [], _∷_}
 use lib.ListN.{set}
 use lib.Seq.{sets}
+use Rattle.pages.specs.Layout.{pageWord, recordWord}
 use Rattle.regions.specs.declared.Region.{Region}
 
 -- PAGES: 57 words at place p; a place given back
 unfoldable pub putPage : List ℕ → ℕ → List ℕ → List ℕ
-putPage w p ws = sets w (57 * p) ws
+putPage w p ws = sets w (pageWord p) ws
 
 unfoldable pub freePage : List ℕ → ℕ → List ℕ
-freePage w p = set w (57 * p) 0
+freePage w p = set w (pageWord p) 0
 
 -- STAB RECORDS: a region with the record behind it (the sixth word stays); another record behind it; a place given back
 abbrev pub recordWords : Region → ℕ → List ℕ
 recordWords r next = r .start ∷ r .end ∷ r .level ∷ r .reference ∷ next ∷ []
 
 unfoldable pub putRecord : List ℕ → ℕ → Region → ℕ → List ℕ
-putRecord w q r next = sets w (9177 + 6 * q) (recordWords r next)
+putRecord w q r next = sets w (recordWord q) (recordWords r next)
 
 unfoldable pub setNext : List ℕ → ℕ → ℕ → List ℕ
-setNext w q next = set w (9177 + 6 * q + 4) next
+setNext w q next = set w (recordWord q + 4) next
 
 unfoldable pub freeRecord : List ℕ → ℕ → List ℕ
-freeRecord w q = set w (9177 + 6 * q + 1) 0
+freeRecord w q = set w (recordWord q + 1) 0
 
 -- HEADER
 unfoldable pub setRoot : List ℕ → ℕ → List ℕ

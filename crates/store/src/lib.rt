@@ -1,22 +1,22 @@
 // The writers of an image's words: a page or a stab record at its place, a place given back, the header; and the search for a free place.
-// What a page holds is worked out by value (crate pagework), so these are the only stores into an image that save and delete make.
+// What a page holds is worked out by value (crate newpages), so these are the only stores into an image that save and delete make.
 ghost use mathlib.Core.Path.{_≡_};
 ghost use Prim.Native.Nat.{_≤_};
 ghost use lib.ListN.{length};
-ghost use Rattle.pages.specs.Layout.{pageOf, pageUsed, recordUsed};
+ghost use Rattle.pages.specs.Layout.{pageOf, pageUsed, recordUsed, imageWords, pageCount, recordCount};
 ghost use Rattle.store.specs.Store.{putPage, freePage, putRecord, setNext, freeRecord, setRoot, setHeight, FirstFree};
 use regions::Region;
 
 // The 57 words of page p, by value.
-pub fn load_page(img: &[u32], p: u32) -> [u32; 57]
-    requires { ⌜ length (now img) ≡ 12288 ⌝ }
-    requires { ⌜ (1 ≤ p) × (p ≤ 160) ⌝ }
+pub fn load_page(img: &[u32], p: u32) -> [u32; pages::PAGE_WIDTH]
+    requires { ⌜ length (now img) ≡ imageWords ⌝ }
+    requires { ⌜ (1 ≤ p) × (p ≤ pageCount) ⌝ }
     ensures { λ r. ⌜ r ≡ pageOf (now (img .entry)) p ⌝ }
 {
     let b = 57 * words::wide(p);
-    let mut ws = [0u32; 57];
+    let mut ws = [0u32; pages::PAGE_WIDTH];
     let mut i: usize = 0;
-    while i < 57 {
+    while i < pages::PAGE_WIDTH {
         ws[i] = img[b + i];
         i += 1;
     }
@@ -24,14 +24,14 @@ pub fn load_page(img: &[u32], p: u32) -> [u32; 57]
 }
 
 // All 57 words of page p.
-pub fn store_page(img: &mut [u32], p: u32, ws: [u32; 57])
-    requires { ⌜ length (now img) ≡ 12288 ⌝ }
-    requires { ⌜ (1 ≤ p) × (p ≤ 160) ⌝ }
+pub fn store_page(img: &mut [u32], p: u32, ws: [u32; pages::PAGE_WIDTH])
+    requires { ⌜ length (now img) ≡ imageWords ⌝ }
+    requires { ⌜ (1 ≤ p) × (p ≤ pageCount) ⌝ }
     ensures { λ _. ⌜ now (img .exit) ≡ putPage (now (img .entry)) p ws ⌝ }
 {
     let b = 57 * words::wide(p);
     let mut i: usize = 0;
-    while i < 57 {
+    while i < pages::PAGE_WIDTH {
         img[b + i] = ws[i];
         i += 1;
     }
@@ -39,8 +39,8 @@ pub fn store_page(img: &mut [u32], p: u32, ws: [u32; 57])
 
 // Gives page p back: only its mark says that it is in use.
 pub fn free_page(img: &mut [u32], p: u32)
-    requires { ⌜ length (now img) ≡ 12288 ⌝ }
-    requires { ⌜ (1 ≤ p) × (p ≤ 160) ⌝ }
+    requires { ⌜ length (now img) ≡ imageWords ⌝ }
+    requires { ⌜ (1 ≤ p) × (p ≤ pageCount) ⌝ }
     ensures { λ _. ⌜ now (img .exit) ≡ freePage (now (img .entry)) p ⌝ }
 {
     img[57 * words::wide(p)] = 0;
@@ -48,8 +48,8 @@ pub fn free_page(img: &mut [u32], p: u32)
 
 // Stab record q: a region, and the record behind it in its list.
 pub fn put_record(img: &mut [u32], q: u32, r: Region, next: u32)
-    requires { ⌜ length (now img) ≡ 12288 ⌝ }
-    requires { ⌜ (1 ≤ q) × (q ≤ 500) ⌝ }
+    requires { ⌜ length (now img) ≡ imageWords ⌝ }
+    requires { ⌜ (1 ≤ q) × (q ≤ recordCount) ⌝ }
     ensures { λ _. ⌜ now (img .exit) ≡ putRecord (now (img .entry)) q r next ⌝ }
 {
     let b = 9177 + 6 * words::wide(q);
@@ -62,8 +62,8 @@ pub fn put_record(img: &mut [u32], q: u32, r: Region, next: u32)
 
 // Links another record behind q.
 pub fn set_next(img: &mut [u32], q: u32, next: u32)
-    requires { ⌜ length (now img) ≡ 12288 ⌝ }
-    requires { ⌜ (1 ≤ q) × (q ≤ 500) ⌝ }
+    requires { ⌜ length (now img) ≡ imageWords ⌝ }
+    requires { ⌜ (1 ≤ q) × (q ≤ recordCount) ⌝ }
     ensures { λ _. ⌜ now (img .exit) ≡ setNext (now (img .entry)) q next ⌝ }
 {
     img[9177 + 6 * words::wide(q) + 4] = next;
@@ -71,22 +71,22 @@ pub fn set_next(img: &mut [u32], q: u32, next: u32)
 
 // Gives record q back: no region ends at 0, so that end says it.
 pub fn free_record(img: &mut [u32], q: u32)
-    requires { ⌜ length (now img) ≡ 12288 ⌝ }
-    requires { ⌜ (1 ≤ q) × (q ≤ 500) ⌝ }
+    requires { ⌜ length (now img) ≡ imageWords ⌝ }
+    requires { ⌜ (1 ≤ q) × (q ≤ recordCount) ⌝ }
     ensures { λ _. ⌜ now (img .exit) ≡ freeRecord (now (img .entry)) q ⌝ }
 {
     img[9177 + 6 * words::wide(q) + 1] = 0;
 }
 
 pub fn set_root(img: &mut [u32], p: u32)
-    requires { ⌜ length (now img) ≡ 12288 ⌝ }
+    requires { ⌜ length (now img) ≡ imageWords ⌝ }
     ensures { λ _. ⌜ now (img .exit) ≡ setRoot (now (img .entry)) p ⌝ }
 {
     img[0] = p;
 }
 
 pub fn set_height(img: &mut [u32], h: u32)
-    requires { ⌜ length (now img) ≡ 12288 ⌝ }
+    requires { ⌜ length (now img) ≡ imageWords ⌝ }
     ensures { λ _. ⌜ now (img .exit) ≡ setHeight (now (img .entry)) h ⌝ }
 {
     img[1] = h;
@@ -94,10 +94,10 @@ pub fn set_height(img: &mut [u32], h: u32)
 
 // The first free page, 0 where none is free.
 pub fn first_free_page(img: &[u32]) -> u32
-    ensures { λ r. ⌜ FirstFree (pageUsed (now (img .entry))) 160 r ⌝ }
+    ensures { λ r. ⌜ FirstFree (pageUsed (now (img .entry))) pageCount r ⌝ }
 {
     let mut p: u32 = 1;
-    while p <= 160 {
+    while p <= pages::PAGE_COUNT {
         if pages::mark(img, p) == 0 {
             return p;
         }
@@ -108,10 +108,10 @@ pub fn first_free_page(img: &[u32]) -> u32
 
 // The first free stab record, 0 where none is free.
 pub fn first_free_record(img: &[u32]) -> u32
-    ensures { λ r. ⌜ FirstFree (recordUsed (now (img .entry))) 500 r ⌝ }
+    ensures { λ r. ⌜ FirstFree (recordUsed (now (img .entry))) recordCount r ⌝ }
 {
     let mut q: u32 = 1;
-    while q <= 500 {
+    while q <= pages::RECORD_COUNT {
         if pages::record_end(img, q) == 0 {
             return q;
         }

@@ -1,6 +1,6 @@
 -- How often a number stands in a list, and sums over the numbers 1 to n: that a place is used once or free is said by numbers, and `omega` does the rest.
 -- Assumes nothing.
-use Prim.Native.Nat.{ℕ, zero, suc, _+_, _*_, _≤_, _<_, zero-le}
+use Prim.Native.Nat.{ℕ, zero, suc, _+_, _≤_, _<_, zero-le}
 use mathlib.Core.Path.{_≡_, refl, sym, ap, _∙_}
 use mathlib.Core.Logic.{_≢_}
 use mathlib.Core.Bool.{Bool, true, false, cond}
@@ -8,7 +8,7 @@ use mathlib.Core.List.{List, [], _∷_, _++_}
 use native.Mathlib.Omega.{arith}
 use lib.Dec.{T, eqb}
 use lib.ListN.{length}
-use Rattle.words.specs.Lists.{All, filter, count}
+use Rattle.words.specs.Lists.{All, filter, count, sumTo}
 use Rattle.words.proofs.Tests.{by-test, eq-yes, eq-no, eq-of, ne-of}
 
 -- 1 where the test holds, else 0
@@ -18,11 +18,6 @@ one b = cond b 1 0
 pub one-at-most : (b : Bool) → one b ≤ 1
 one-at-most true = omega arith
 one-at-most false = omega arith
-
--- f 1 + .. + f n
-unfoldable pub sumTo : (ℕ → ℕ) → ℕ → ℕ
-sumTo f zero = 0
-sumTo f (suc n) = f (suc n) + sumTo f n
 
 pub count-append : (x : ℕ) (ys zs : List ℕ) → count x (ys ++ zs) ≡ count x ys + count x zs
 unfolding count

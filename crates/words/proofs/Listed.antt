@@ -1,15 +1,15 @@
 -- Lists: what every element or pair has, filters, beginnings.
 -- Assumes nothing.
-use Prim.Native.Nat.{ℕ, zero, suc, _+_, _≤_, _<_}
+use Prim.Native.Nat.{ℕ, zero, suc}
 use mathlib.Core.Path.{_≡_, refl, sym, ap, ap₂, _∙_, subst}
 use mathlib.Core.Logic.{_⊎_, inl, inr, ⊎-elim}
-use mathlib.Core.Bool.{Bool, true, false, _&&_, _||_, not, cond, true≢false}
+use mathlib.Core.Bool.{Bool, true, false, _&&_, not, cond, true≢false}
 use mathlib.Core.List.{List, [], _∷_, _++_, map, flatMap, append-assoc}
 use lib.Dec.{T}
-use lib.ListN.{length, take, drop}
+use lib.ListN.{take, drop}
 use native.Mathlib.Omega.{arith}
-use Rattle.words.specs.Lists.{filter, takeWhile, dropWhile, some, all, allPairs, All, Pairs, In, lastOr}
-use Rattle.words.proofs.Tests.{T-of, of-T, off-T, no-T, both, by-test, and-comm, and-assoc, and-left, and-right, and-both}
+use Rattle.words.specs.Lists.{filter, takeWhile, dropWhile, some, all, All, Pairs, In, lastOr}
+use Rattle.words.proofs.Tests.{T-of, off-T, no-T, both, by-test, and-comm, and-assoc}
 
 and-in : (a b : Bool) → (a ≡ true → b ≡ true) → a ≡ (b && a)
 and-in true b h = rw (h refl)
@@ -83,10 +83,6 @@ module _ {A : Type 0} where
   pairs-put R [] vs r p a b = (b, p)
   pairs-put R (u ∷ us) vs r p a b =
       (all-append (R u) us (r ∷ vs) (all-left (R u) us vs (p .0)) (a .0, all-right (R u) us vs (p .0)), pairs-put R us vs r (p .1) (a .1) b)
-
-  pub pairs-out : (R : A → A → Type 0) (us vs : List A) (r : A) → Pairs R (us ++ r ∷ vs) → Pairs R (us ++ vs)
-  pairs-out R [] vs r p = p .1
-  pairs-out R (u ∷ us) vs r p = (all-append (R u) us vs (all-left (R u) us (r ∷ vs) (p .0)) (all-right (R u) us (r ∷ vs) (p .0) .1), pairs-out R us vs r (p .1))
 
   -- FILTERS
   pub filter-yes : (p : A → Bool) (x : A) (xs : List A) → p x ≡ true → filter p (x ∷ xs) ≡ x ∷ filter p xs
@@ -246,11 +242,6 @@ module _ {A : Type 0} where
   unfolding some
   none-some xs h = rw h
 
-  pub some-append : (xs ys : List A) → some (xs ++ ys) ≡ (some xs || some ys)
-  unfolding some
-  some-append [] ys = refl
-  some-append (x ∷ xs) ys = refl
-
   -- tests of every element
   pub all-test-append : (p : A → Bool) (xs ys : List A) → all p (xs ++ ys) ≡ (all p xs && all p ys)
   unfolding all
@@ -262,11 +253,6 @@ module _ {A B : Type 0} where
   unfolding flatMap
   flat-append f [] ys = refl
   flat-append f (x ∷ xs) ys = ap (λ l. f x ++ l) (flat-append f xs ys) ∙ sym (append-assoc (f x) (flatMap f xs) (flatMap f ys))
-
-  pub flat-none : (f : A → List B) (xs : List A) → All (λ x. f x ≡ []) xs → flatMap f xs ≡ []
-  unfolding flatMap
-  flat-none f [] h = refl
-  flat-none f (x ∷ xs) h = rw (h .0, flat-none f xs (h .1))
 
   pub flat-same : (f g : A → List B) (xs : List A) → All (λ x. f x ≡ g x) xs → flatMap f xs ≡ flatMap g xs
   unfolding flatMap

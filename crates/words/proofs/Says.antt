@@ -1,13 +1,12 @@
 -- A test and the statement that it decides. (A record, so that both can be read off where it is used.)
 -- Assumes nothing.
-use Prim.Native.Nat.{ℕ, zero, suc, _+_, _≤_, _<_}
-use mathlib.Core.Path.{_≡_, refl, sym, ap, ap₂, _∙_}
-use mathlib.Core.Bool.{Bool, true, false, _&&_, _||_, not, cond}
-use mathlib.Core.List.{List, [], _∷_, _++_}
+use Prim.Native.Nat.{ℕ, _≤_, _<_}
+use mathlib.Core.Path.{_≡_}
+use mathlib.Core.Bool.{Bool, true, _&&_}
+use mathlib.Core.List.{List, [], _∷_}
 use lib.Dec.{T, leb, ltb, eqb, leb→le, ltb→lt, le→leb, lt→ltb, eqb→eq, eqb-refl}
-use native.Mathlib.Omega.{arith}
 use Rattle.words.specs.Lists.{all, allPairs, All, Pairs}
-use Rattle.words.proofs.Tests.{T-of, of-T, both, and-left, and-right, and-both}
+use Rattle.words.proofs.Tests.{both, and-left, and-right, and-both}
 
 pub record Says (b : Bool) (M : Type 0) : Type 0 where
   pub yes-so : T b → M

@@ -1,9 +1,9 @@
 -- Tests: from a Bool to the fact that it decides, and back.
 -- Assumes nothing.
-use Prim.Native.Nat.{ℕ, zero, suc, _+_, _<_, _≤_}
-use mathlib.Core.Path.{_≡_, refl, sym, ap, _∙_}
+use Prim.Native.Nat.{ℕ, suc, _<_, _≤_}
+use mathlib.Core.Path.{_≡_, refl, sym, _∙_}
 use mathlib.Core.Bool.{Bool, true, false, not, _&&_, _||_, cond, true≢false, false≢true}
-use mathlib.Core.List.{List, [], _∷_}
+use mathlib.Core.List.{List, _∷_}
 use lib.Dec.{T, leb, ltb, eqb, leb→le, le→leb, ltb→lt, lt→ltb, nleb→lt, nltb→le, eqb→eq, eqb-refl}
 use native.Mathlib.Omega.{arith}
 use Rattle.words.specs.Lists.{firstNo}
@@ -154,15 +154,6 @@ both-cond R true true x y x′ y′ e f g = f refl refl
 both-cond R true false x y x′ y′ e f g = absurd (true≢false e)
 both-cond R false true x y x′ y′ e f g = absurd (false≢true e)
 both-cond R false false x y x′ y′ e f g = g
-
--- a run of tests: its first test, and behind it; and one that came to 0
-pub first-test : (b : Bool) (n : ℕ) (ts : List (Bool × ℕ)) → firstNo ((b, n) ∷ ts) ≡ cond b n (firstNo ts)
-unfolding firstNo
-first-test b n ts = refl
-
-pub first-none : firstNo [] ≡ 0
-unfolding firstNo
-first-none = refl
 
 pub first-0 : (b : Bool) (n : ℕ) (ts : List (Bool × ℕ)) → firstNo ((b, suc n) ∷ ts) ≡ 0 → (b ≡ false) × (firstNo ts ≡ 0)
 unfolding firstNo

@@ -1,15 +1,12 @@
 -- Words that are written from an index on: which words stay, what stands there, and one run of writes after another.
 -- Assumes nothing.
-use Prim.Native.Nat.{ℕ, zero, suc, _+_, _*_, _-_, _/_, _<_, _≤_, min}
+use Prim.Native.Nat.{ℕ, zero, suc, _+_, _*_, _-_, _<_, _≤_}
 use mathlib.Core.Path.{_≡_, refl, sym, ap, ap₂, _∙_}
 use mathlib.Core.List.{List, [], _∷_, _++_, flatMap}
-use lib.ListN.{length, take, drop, getD, set, length-append, length-take, length-set}
-use lib.Seq.{sets, length-sets, getD-set-same, getD-set-other, take-all, take-append-le}
+use lib.ListN.{length, take, getD, set, length-append, length-set}
+use lib.Seq.{sets, getD-set-same, getD-set-other}
 use native.Mathlib.Omega.{arith}
 use native.Mathlib.Nat.{mul-zero, mul-suc, add-comm}
-use native.Mathlib.Decide.{decLe}
-use Rattle.words.specs.Lists.{All}
-use Rattle.words.proofs.Listed.{flat-append}
 
 module _ {A : Type 0} where
   pub sets-below : (vs l : List A) (i j : ℕ) (d : A) → j < i → getD (sets l i vs) j d ≡ getD l j d
@@ -40,24 +37,9 @@ module _ {A : Type 0} where
       let e : suc c - suc (length p) ≡ c - length p = omega arith in
       rw e (ap (λ (x : List A). r ∷ x) (take-append-more p q c (omega arith)))
 
-  -- the first c of two lists
-  pub take-both : (c : ℕ) (p q : List A) → take c (p ++ q) ≡ take c p ++ take (c - length (take c p)) q
-  take-both zero p q = refl
-  take-both (suc c) [] q = let e : suc c - 0 ≡ suc c = omega arith in rw e
-  take-both (suc c) (x ∷ p) q =
-      let e : suc c - suc (length (take c p)) ≡ c - length (take c p) = omega arith in
-      rw e (ap (λ (l : List A). x ∷ l) (take-both c p q))
-
 -- items of m words each
 module _ {A B : Type 0} (f : A → List B) (m : ℕ) (wide : (x : A) → length (f x) ≡ m) where
   pub flat-long : (xs : List A) → length (flatMap f xs) ≡ m * length xs
   unfolding flatMap
   flat-long [] = sym (mul-zero m)
   flat-long (x ∷ xs) = length-append (f x) (flatMap f xs) ∙ ap₂ _+_ (wide x) (flat-long xs) ∙ add-comm m (m * length xs) ∙ sym (mul-suc m (length xs))
-
-  -- at most c items, first of p and then of q, are at most c items of p and q together
-  pub fill-two : (l : List B) (i c : ℕ) (p q : List A)
-      → sets (sets l i (flatMap f (take c p))) (i + m * length (take c p)) (flatMap f (take (c - length (take c p)) q)) ≡ sets l i (flatMap f (take c (p ++ q)))
-  fill-two l i c p q =
-      sets-append l i (i + m * length (take c p)) (flatMap f (take c p)) (flatMap f (take (c - length (take c p)) q)) (ap (λ n. i + n) (sym (flat-long (take c p))))
-      ∙ ap (λ x. sets l i x) (sym (flat-append f (take c p) (take (c - length (take c p)) q)) ∙ ap (flatMap f) (sym (take-both c p q)))

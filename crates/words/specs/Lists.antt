@@ -4,7 +4,7 @@ use Prim.Native.Nat.{ℕ, zero, suc, _+_}
 use mathlib.Core.Path.{_≡_}
 use mathlib.Core.Logic.{_⊎_}
 use mathlib.Core.Bool.{Bool, true, false, _&&_, cond}
-use mathlib.Core.List.{List, [], _∷_, _++_}
+use mathlib.Core.List.{List, [], _∷_}
 use lib.Dec.{eqb}
 
 module _ {A : Type 0} where
@@ -69,3 +69,8 @@ sum (n ∷ ns) = n + sum ns
 unfoldable pub firstNo : List (Bool × ℕ) → ℕ
 firstNo [] = 0
 firstNo (t ∷ ts) = cond (t .0) (t .1) (firstNo ts)
+
+-- f 1 + .. + f n
+unfoldable pub sumTo : (ℕ → ℕ) → ℕ → ℕ
+sumTo f zero = 0
+sumTo f (suc n) = f (suc n) + sumTo f n

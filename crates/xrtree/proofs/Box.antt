@@ -1,31 +1,19 @@
 -- The algebra of boxes: the regions of a set whose start lies in a ≤ s < b and whose end lies in c ≤ e < d, in order.
 -- A stab list is a box, the ancestors of a position are a box, and every law of stab lists is a cut of a box in two.
 -- Assumes nothing.
-use Prim.Native.Nat.{ℕ, suc, _+_, _-_, _≤_, _<_, min, max}
+use Prim.Native.Nat.{ℕ, suc, _≤_, _<_, min, max}
 use mathlib.Core.Path.{_≡_, sym, ap₂, _∙_}
 use mathlib.Core.Bool.{Bool, true, false, _&&_, not}
-use mathlib.Core.List.{List, [], _++_}
+use mathlib.Core.List.{List, _++_}
 use lib.Dec.{T, leb, ltb, leb→le, ltb→lt, le→leb, lt→ltb}
 use native.Mathlib.Omega.{arith}
 use Rattle.words.specs.Lists.{filter, takeWhile, dropWhile, All, Pairs}
 use Rattle.words.proofs.Tests.{and-left, and-right, and-both}
-use Rattle.words.proofs.Listed.{filter-filter, filter-iff, filter-both, filter-never, pairs-filter, begins, rests, while-join}
+use Rattle.words.proofs.Listed.{filter-filter, filter-iff, filter-both, pairs-filter, begins, rests, while-join}
 use Rattle.regions.specs.Positions.{stabs, holds}
 use Rattle.regions.specs.declared.Region.{Region}
-use Rattle.xrtree.proofs.Claims.{Over}
-
-unfoldable pub boxb : ℕ → ℕ → ℕ → ℕ → Region → Bool
-boxb a b c d r = leb a (r .start) && (ltb (r .start) b && (leb c (r .end) && ltb (r .end) d))
-
-unfoldable pub box : ℕ → ℕ → ℕ → ℕ → List Region → List Region
-box a b c d rs = filter (boxb a b c d) rs
-
--- the list at key k, between the bounds lo and hi
-abbrev pub home : ℕ → ℕ → ℕ → List Region → List Region
-home lo k hi rs = box lo (suc k) k hi rs
-
-abbrev pub InBox : ℕ → ℕ → ℕ → ℕ → Region → Type 0
-InBox a b c d r = (a ≤ r .start) × (r .start < b) × (c ≤ r .end) × (r .end < d)
+use Rattle.xrtree.specs.Claims.{Over}
+use Rattle.xrtree.specs.Local.{InBox, box, boxb}
 
 pub of-box : (a b c d : ℕ) (r : Region) → T (boxb a b c d r) → InBox a b c d r
 unfolding boxb
@@ -72,10 +60,6 @@ pub is-box-in : {M : Region → Type 0} (P : Region → Bool) (a b c d : ℕ) �
     → ((r : Region) → M r → InBox a b c d r → T (P r)) → (rs : List Region) → All M rs → filter P rs ≡ box a b c d rs
 unfolding box
 is-box-in P a b c d f g rs m = filter-iff P (boxb a b c d) (λ r k h. to-box a b c d r (f r k h)) (λ r k h. g r k (of-box a b c d r h)) rs m
-
-pub box-empty : (a b c d : ℕ) → ((r : Region) → InBox a b c d r → ⊥) → (rs : List Region) → box a b c d rs ≡ []
-unfolding box
-box-empty a b c d f rs = filter-never (boxb a b c d) (λ r h. f r (of-box a b c d r h)) rs
 
 -- a test within a box
 pub box-within : (Q : Region → Bool) (a b c d a′ b′ c′ d′ : ℕ)

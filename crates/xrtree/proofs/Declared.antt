@@ -1,7 +1,7 @@
 -- THE DECLARED RULES ⟺ GOOD: rules 2 to 5 as document 01 words them, and the form with boxes and bounds behind all laws, are the same under rules 1 and 6.
 -- Rules 3 and 4 declare the lists in two steps (the page's stab list, and each key's part of it); `page-lists` joins them for one page.
 -- Assumes nothing.
-use Prim.Native.Nat.{ℕ, zero, suc, _+_, _-_, _≤_}
+use Prim.Native.Nat.{ℕ, zero, suc, _≤_}
 use mathlib.Core.Path.{_≡_, refl, sym, ap, ap₂, _∙_, subst}
 use mathlib.Core.Bool.{Bool, true, false, _&&_, not}
 use mathlib.Core.Logic.{_↔_}
@@ -17,7 +17,7 @@ use Rattle.regions.specs.declared.Region.{Region}
 use Rattle.xrtree.specs.Tree.{Entry, Key, Leaf, Tree, weave, listed, leaves, keysIn, stabList, allKids}
 use Rattle.xrtree.specs.Tree.Item.{start}
 use Rattle.xrtree.specs.Rules.{noneStabs, sameRegion, sameRegions, topmost, primary, pageLists, ownLists, pairRight, pairsRight, flagRight, flagged, rule4, rule5}
-use Rattle.xrtree.proofs.Claims.{InKids, In, heldHere, ListsIn, Kids, Lists, pairIs, PairsIn, Firsts, flagOf, Flags}
+use Rattle.xrtree.specs.Claims.{InKids, In, heldHere, ListsIn, Kids, Lists, pairIs, PairsIn, Firsts, flagOf, Flags}
 use Rattle.xrtree.proofs.Box.{of-stabs, to-stabs}
 use Rattle.xrtree.proofs.Local.{keys-above}
 use Rattle.xrtree.proofs.Order.{Rising}

@@ -1,6 +1,6 @@
 -- A region comes into the set, or leaves it: only its owner's list changes. The owner is found on the way down: in a page the first key that is not below the start; if it is at most the end, it owns.
 -- Assumes nothing.
-use Prim.Native.Nat.{ℕ, zero, suc, _+_, _-_, _≤_, _<_}
+use Prim.Native.Nat.{ℕ, zero, suc, _≤_, _<_}
 use mathlib.Core.Path.{_≡_, refl, sym, ap, _∙_}
 use mathlib.Core.Bool.{Bool, true, false, cond}
 use mathlib.Core.List.{List, [], _∷_, _++_}
@@ -11,21 +11,10 @@ use Rattle.words.proofs.Tests.{of-T, off-T, by-test, lt-of, nlt-of, le-of, nle-
 use Rattle.words.proofs.Listed.{filter-append, all-filter}
 use Rattle.regions.specs.declared.Region.{Region}
 use Rattle.xrtree.specs.Tree.{Entry, Key, Tree}
-use Rattle.xrtree.proofs.Claims.{pageAt, Page, Claim, InKids, In}
-use Rattle.xrtree.proofs.Box.{boxb, box, InBox, of-box, to-box}
-use Rattle.xrtree.proofs.Local.{LocalKids, Local}
-use Rattle.xrtree.proofs.Splice.{keyWith}
-
--- into a list in order of start, and out of it
-unfoldable pub put : Region → List Region → List Region
-put r l = takeWhile (λ (x : Region). ltb (x .start) (r .start)) l ++ r ∷ dropWhile (λ (x : Region). ltb (x .start) (r .start)) l
-
-abbrev pub behind : List Region → List Region
-behind [] = []
-behind (x ∷ xs) = xs
-
-unfoldable pub out : ℕ → List Region → List Region
-out s l = takeWhile (λ (x : Region). ltb (x .start) s) l ++ behind (dropWhile (λ (x : Region). ltb (x .start) s) l)
+use Rattle.xrtree.specs.Claims.{pageAt, Page, Claim, InKids, In}
+use Rattle.xrtree.specs.Local.{boxb, box, InBox, LocalKids, Local}
+use Rattle.xrtree.proofs.Box.{of-box, to-box}
+use Rattle.xrtree.specs.Moves.{keyWith, out, own, ownKids, put}
 
 module _ {A : Type 0} (Q : A → Bool) where
   take-two : (xs ys : List A) → All (λ x. Q x ≡ true) xs → All (λ y. Q y ≡ false) ys → takeWhile Q (xs ++ ys) ≡ xs
@@ -88,19 +77,6 @@ module _ (us vs : List Region) (r : Region) (low : All (λ (x : Region). x .star
     where
       cut : box a b c d (us ++ vs) ≡ box a b c d us ++ box a b c d vs
       cut = unfold box in filter-append (boxb a b c d) us vs
-
--- THE OWNER: g is what is done to its list, w says where its records lie then
-module _ {A : Type 0} (f : A → A) (g : List Region → List Region) (w : Key → List ℕ) (r : Region) where
-  unfoldable pub ownKids : List (A × Key) → A → List (A × Key) × A
-  ownKids [] last = ([], f last)
-  ownKids (c ∷ cs) last =
-      cond (ltb (c .1 .key) (r .start))
-      (c ∷ ownKids cs last .0, ownKids cs last .1)
-      (cond (leb (c .1 .key) (r .end)) ((c .0, keyWith (c .1 .key) (w (c .1)) (g (c .1 .list))) ∷ cs, last) ((f (c .0), c .1) ∷ cs, last))
-
-unfoldable pub own : (List Region → List Region) → (Key → List ℕ) → Region → (h : ℕ) → Tree h → Tree h
-own g w r zero t = t
-own g w r (suc h) t = pageAt (t .place) (ownKids (own g w r h) g w r (t .kids) (t .last) .0) (ownKids (own g w r h) g w r (t .kids) (t .last) .1)
 
 -- what the change of the set from rs to rs′ does to a box that holds r, and to one that does not
 module _ (rs rs′ : List Region) (r : Region) (g : List Region → List Region) (w : Key → List ℕ) (long : r .start < r .end)

@@ -1,21 +1,20 @@
 -- The rules can be met: a tree of height 2 with forty regions keeps every one, by computation. The searches on it find what they must, in as many steps as counted by hand.
 -- Assumes nothing.
-use Prim.Native.Nat.{ℕ, zero, suc, _+_, _*_, _/_}
+use Prim.Native.Nat.{ℕ}
 use mathlib.Core.Path.{_≡_, refl}
-use mathlib.Core.Bool.{Bool, true, false, cond, not}
-use mathlib.Core.List.{List, [], _∷_, _++_, map}
-use lib.Dec.{leb, ltb, eqb}
-use lib.ListN.{length, getD}
+use mathlib.Core.Bool.{true}
+use mathlib.Core.List.{List, [], _∷_, map}
+use lib.Dec.{leb, ltb}
 use Rattle.words.specs.Lists.{filter, takeWhile, all, allPairs, count, sum}
 use Rattle.regions.specs.Positions.{wellBound, wellFormed, endsBefore, contains, nested, stabs, holds}
 use Rattle.regions.specs.Sets.{Set, of}
 use Rattle.regions.specs.declared.Region.{Region}
-use Rattle.xrtree.specs.Tree.{Entry, Key, Leaf, Inner, Tree, weave, listed, keysIn, stabList, allKids, regions, keysOf, pagePlaces, recordPlaces}
+use Rattle.xrtree.specs.Tree.{Entry, Key, Tree, weave, listed, keysIn, stabList, allKids, regions, keysOf, pagePlaces, recordPlaces}
 use Rattle.xrtree.specs.Rules.{filledBelow, filled, firstPlace, linked, startsFirst, rule1, separates, rule2, noneStabs, sameRegion, sameRegions, pageLists, flagged, rule3, ownLists, rule4, pairRight, pairsRight, rule5, sharesKept, rule6, onceOrFree, placed}
 use Rattle.xrtree.specs.Search.{run, looks, cost, findKids, stepsKids, holdsFree, find, steps}
 use Rattle.words.proofs.Tests.{T-of}
 use Rattle.words.proofs.Says.{lt-says, all-says}
-use Rattle.xrtree.proofs.Claims.{leafAt, pageAt, Good}
+use Rattle.xrtree.specs.Claims.{leafAt, pageAt, Good}
 use Rattle.xrtree.proofs.Rules.{rules-good}
 
 abbrev reg : ℕ → ℕ → ℕ → ℕ → Region

@@ -1,6 +1,6 @@
 -- Where the regions of a box lie: under one child, but for one that starts at the key.
 -- Assumes nothing.
-use Prim.Native.Nat.{ℕ, zero, suc, _+_, _-_, _≤_, _<_}
+use Prim.Native.Nat.{ℕ, zero, suc, _≤_, _<_}
 use mathlib.Core.Path.{_≡_, refl, sym, ap, _∙_}
 use mathlib.Core.Logic.{_↔_}
 use mathlib.Core.List.{List, [], _∷_, _++_, map, append-nil}
@@ -11,9 +11,9 @@ use Rattle.words.proofs.Tests.{off-T}
 use Rattle.words.proofs.Listed.{all-mono, all-append, pairs-left, pairs-right, filter-append, filter-none}
 use Rattle.regions.specs.declared.Region.{Region}
 use Rattle.xrtree.specs.Tree.{Entry, Key, Tree, weave, listed, regionOf, regions}
-use Rattle.xrtree.proofs.Claims.{regionsIn, Within, InKids, In, Over}
-use Rattle.xrtree.proofs.Box.{boxb, box, InBox, of-box}
-use Rattle.xrtree.proofs.Local.{LocalKids, Local}
+use Rattle.xrtree.specs.Claims.{regionsIn, Within, InKids, In, Over}
+use Rattle.xrtree.specs.Local.{boxb, box, InBox, LocalKids, Local, Here}
+use Rattle.xrtree.proofs.Box.{of-box}
 
 pub box-append : (a b c d : ℕ) (xs ys : List Region) → box a b c d (xs ++ ys) ≡ box a b c d xs ++ box a b c d ys
 unfolding box
@@ -48,10 +48,6 @@ starts-in (suc h) lo hi t i = kids-starts h (λ lo hi c j. starts-in h lo hi c j
 
 pub starts-weave : (h : ℕ) (cs : List (Tree h × Key)) (last : Tree h) (lo hi : ℕ) → InKids (In h) lo hi cs last → Starts lo hi (regionsIn h cs last)
 starts-weave h cs last lo hi i = kids-starts h (λ lo hi c j. starts-in h lo hi c j) cs last lo hi i
-
--- ts has all regions of rs that start in lo .. hi - 1: a box of such starts may be read there
-pub record Here (rs : List Region) (lo hi : ℕ) (ts : List Region) : Type 0 where
-  pub same : (a b c d : ℕ) → lo ≤ a → b ≤ hi → box a b c d rs ≡ box a b c d ts
 
 pub here-all : (rs : List Region) (lo hi : ℕ) → Here rs lo hi rs
 here-all rs lo hi = record { same = λ a b c d l u. refl }

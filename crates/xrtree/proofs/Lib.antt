@@ -1,4 +1,3 @@
-pub mod Claims
 pub mod Box
 pub mod Local
 pub mod Here

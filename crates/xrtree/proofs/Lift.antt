@@ -1,7 +1,7 @@
 -- The laws behind `lift`: the list at a key before and after a key is put in, raised, lowered or taken out. Equations between lists, for the code's proofs to cite.
 -- `home lo k hi rs` is the list at key k whose bounds are lo (one more than the key on its left in the page, or the page's own lower bound) and hi (the page's upper bound).
 -- Assumes nothing.
-use Prim.Native.Nat.{ℕ, suc, _+_, _-_, _≤_, _<_}
+use Prim.Native.Nat.{ℕ, suc, _≤_, _<_}
 use mathlib.Core.Path.{_≡_, sym, ap, ap₂, _∙_}
 use mathlib.Core.List.{List, _++_}
 use lib.Dec.{T}
@@ -10,8 +10,9 @@ use Rattle.words.specs.Lists.{takeWhile, dropWhile, Pairs}
 use Rattle.words.proofs.Listed.{while-join}
 use Rattle.regions.specs.Positions.{stabs}
 use Rattle.regions.specs.declared.Region.{Region}
-use Rattle.xrtree.proofs.Claims.{Over}
-use Rattle.xrtree.proofs.Box.{box, home, InBox, of-stabs, to-stabs, box-take, box-drop}
+use Rattle.xrtree.specs.Claims.{Over}
+use Rattle.xrtree.specs.Local.{box, home, InBox}
+use Rattle.xrtree.proofs.Box.{of-stabs, to-stabs, box-take, box-drop}
 
 module _ (rs : List Region) (o : Pairs Over rs) where
   -- what any key j stabs is a beginning of a list

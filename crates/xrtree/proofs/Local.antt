@@ -1,6 +1,6 @@
 -- The declared stab lists (rules 3 and 4) and flags, and their local form: the list at a key is a box between the keys around it.
 -- Assumes nothing.
-use Prim.Native.Nat.{ℕ, zero, suc, _+_, _-_, _≤_, _<_}
+use Prim.Native.Nat.{ℕ, zero, suc, _≤_, _<_}
 use mathlib.Core.Path.{_≡_, refl, sym, ap, _∙_}
 use mathlib.Core.Bool.{Bool, true, false, _&&_, not}
 use mathlib.Core.Logic.{_↔_}
@@ -14,8 +14,9 @@ use Rattle.regions.specs.Positions.{stabs}
 use Rattle.regions.specs.declared.Region.{Region}
 use Rattle.xrtree.specs.Tree.{Entry, Key, Tree, weave, listed, regionOf, keysOf, keysIn}
 use Rattle.xrtree.specs.Rules.{noneStabs}
-use Rattle.xrtree.proofs.Claims.{keysUnder, Page, Claim, Within, InKids, In, Fits, ListsIn, Kids, Lists, flagOf, Flags}
-use Rattle.xrtree.proofs.Box.{boxb, box, home, InBox, of-box, to-box, of-stabs, to-stabs, is-box-in}
+use Rattle.xrtree.specs.Claims.{keysUnder, Page, Claim, Within, InKids, In, Fits, ListsIn, Kids, Lists, flagOf, Flags}
+use Rattle.xrtree.specs.Local.{boxb, box, home, InBox, FlagKids, FlagsAre, Local, LocalFlags, LocalKids}
+use Rattle.xrtree.proofs.Box.{of-box, to-box, of-stabs, to-stabs, is-box-in}
 
 -- f says of a region that no key of some keys stabs it; none of these keys lies in lo .. hi - 1, and lo - 1 and hi are such keys (or 0 and top)
 pub record Gap (top : ℕ) (f : Region → Bool) (lo hi : ℕ) : Type 0 where
@@ -108,31 +109,6 @@ list-box {f = f} {lo = lo} {hi = hi} k l u q rs m =
     omega arith)
     (λ r w i. and-both (stabs k r) _ (to-stabs k r (omega arith)) (q .back r (i .0) (i .3)))
     rs m
-
--- the local form, lists and flags
-abbrev pub ListIs : List Region → ℕ → ℕ → Key → Type 0
-ListIs rs lo hi k = k .list ≡ home lo (k .key) hi rs
-
-abbrev pub NoLeaf : ℕ → ℕ → List Entry → Type 0
-NoLeaf lo hi t = Unit {0}
-
-abbrev pub NoKey : ℕ → ℕ → Key → Type 0
-NoKey lo hi k = Unit {0}
-
-abbrev pub LocalKids : {A : Type 0} → List Region → (ℕ → ℕ → A → Type 0) → ℕ → ℕ → List (A × Key) → A → Type 0
-LocalKids rs P lo hi cs last = Page (ListIs rs) P lo hi cs last
-
-abbrev pub Local : (h : ℕ) → List Region → ℕ → ℕ → Tree h → Type 0
-Local h rs lo hi t = Claim (ListIs rs) NoLeaf h lo hi t
-
-abbrev pub FlagKids : {A : Type 0} → (ℕ → ℕ → A → Type 0) → ℕ → ℕ → List (A × Key) → A → Type 0
-FlagKids P lo hi cs last = Page NoKey P lo hi cs last
-
-abbrev pub FlagsAre : ℕ → ℕ → List Entry → Type 0
-FlagsAre lo hi t = All (λ (e : Entry). e .flag ≡ flagOf (leb lo (e .region .start) && ltb (e .region .end) hi)) t
-
-abbrev pub LocalFlags : (h : ℕ) → ℕ → ℕ → Tree h → Type 0
-LocalFlags h lo hi t = Claim NoKey FlagsAre h lo hi t
 
 -- keys to the right within a page
 pub keys-above : {A : Type 0} (P : ℕ → ℕ → A → Type 0) (j lo hi : ℕ) (cs : List (A × Key)) (last : A) → j ≤ lo → InKids P lo hi cs last → All (λ k. j ≤ k) (keysIn cs)

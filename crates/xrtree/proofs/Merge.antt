@@ -1,9 +1,9 @@
 -- MERGES of two leaves and of two inner pages, at the first key of a page: a sound part goes to a sound part with the same regions.
 -- Assumes nothing.
-use Prim.Native.Nat.{ℕ, suc, _+_, _-_, _≤_, _<_}
+use Prim.Native.Nat.{ℕ, suc, _≤_, _<_}
 use mathlib.Core.Path.{_≡_, refl, sym, ap, _∙_, subst}
 use mathlib.Core.Bool.{Bool, false, _&&_, _||_, cond}
-use mathlib.Core.List.{List, [], _∷_, _++_, map, append-assoc}
+use mathlib.Core.List.{List, [], _∷_, _++_, map}
 use lib.Dec.{leb, ltb, eqb, leb→le, ltb→lt, le→leb, lt→ltb, eqb-refl}
 use native.Mathlib.Omega.{arith}
 use Rattle.words.specs.Lists.{filter, takeWhile, dropWhile, All, Pairs}
@@ -11,13 +11,12 @@ use Rattle.words.proofs.Tests.{T-of, of-T, no-T, both, by-test, and-left, and-r
 use Rattle.words.proofs.Listed.{all-mono, all-two, all-append, all-left, all-right, map-append}
 use Rattle.regions.specs.Positions.{stabs}
 use Rattle.regions.specs.declared.Region.{Region}
-use Rattle.xrtree.specs.Tree.{Entry, Key, Leaf, Tree, weave, listed, regionOf, regions}
-use Rattle.xrtree.proofs.Claims.{leafAt, pageAt, regionsIn, Page, Claim, Within, In, Over, flagOf}
-use Rattle.xrtree.proofs.Box.{boxb, box, home, of-box, to-box}
-use Rattle.xrtree.proofs.Local.{NoLeaf, Local, FlagsAre, LocalFlags}
-use Rattle.xrtree.proofs.Here.{Here}
-use Rattle.xrtree.proofs.Splice.{keyWith, merge-mid, sunk, leftOver, join-page, in-join, flag-join, movedPlaces, keptPlaces}
-use Rattle.xrtree.proofs.Whole.{FirstIs, Part}
+use Rattle.xrtree.specs.Tree.{Entry, Key, Leaf, Tree, regionOf}
+use Rattle.xrtree.specs.Claims.{leafAt, pageAt, Page, Claim, Within, In, Over, flagOf}
+use Rattle.xrtree.specs.Local.{boxb, box, home, NoLeaf, Local, FlagsAre, LocalFlags, Here, FirstIs, Part}
+use Rattle.xrtree.proofs.Box.{of-box, to-box}
+use Rattle.xrtree.specs.Moves.{keyWith, sunk, leftOver, movedPlaces, keptPlaces, anyStart, clear}
+use Rattle.xrtree.proofs.Splice.{merge-mid, join-page, in-join, flag-join}
 use Rattle.xrtree.proofs.Split.{first-of}
 
 -- INNER MERGE
@@ -65,12 +64,6 @@ module _ (rs : List Region) (o : Pairs Over rs) (h lo hi : ℕ) (ls bs : List (T
       }
 
 -- LEAF MERGE. What is left of the key's list is in no list any more: those entries get flag 0
-unfoldable pub anyStart : ℕ → List Region → Bool
-anyStart s [] = false
-anyStart s (r ∷ rs) = eqb s (r .start) || anyStart s rs
-
-unfoldable pub clear : List Region → Entry → Entry
-clear l e = record { region = e .region; flag = cond (anyStart (e .region .start) l) 0 (e .flag) }
 
 -- starts tell the regions of a set apart: a start stands in a filter of it where its region passes
 pub any-none : (P : Region → Bool) (s : ℕ) (xs : List Region) → All (λ (r : Region). s < r .start) xs → anyStart s (filter P xs) ≡ false
@@ -198,34 +191,3 @@ pub regions-clear : (l : List Region) (xs : List Entry) → map regionOf (map (c
 unfolding clear
 regions-clear l [] = refl
 regions-clear l (e ∷ es) = ap (e .region ∷_) (regions-clear l es)
-
-pub weave-sunk : {A : Type 0} (f : A → List Region) (l : List Region) (ps : List ℕ) (cs ds : List (A × Key)) (m last : A) (k : Key)
-    → weave f (λ (k : Key). []) (sunk cs l ps ++ (m, k) ∷ ds) last ≡ weave f (λ (k : Key). []) cs m ++ weave f (λ (k : Key). []) ds last
-unfolding weave sunk
-weave-sunk f l ps [] ds m last k = refl
-weave-sunk f l ps (c ∷ cs) ds m last k =
-    ap (λ (z : List Region). f (c .0) ++ z) (weave-sunk f (dropWhile (stabs (c .1 .key)) l) (keptPlaces (c .1 .key) l ps) cs ds m last k)
-    ∙ sym (append-assoc (f (c .0)) (weave f (λ (k : Key). []) cs m) (weave f (λ (k : Key). []) ds last))
-
-pub leaf-merge-regions : (l : List Region) (xs ys : List Entry) (p n p₁ n₁ p₂ n₂ : ℕ) (j a b : Key) (cs : List (Leaf × Key)) (last : Leaf)
-    → regionsIn 0 ((leafAt p n (map (clear l) (xs ++ ys)), j) ∷ cs) last ≡ regionsIn 0 ((leafAt p₁ n₁ xs, a) ∷ (leafAt p₂ n₂ ys, b) ∷ cs) last
-unfolding weave listed
-leaf-merge-regions l xs ys p n p₁ n₁ p₂ n₂ j a b cs last =
-    rw (regions-clear l (xs ++ ys), map-append regionOf xs ys, append-assoc (map regionOf xs) (map regionOf ys) (regionsIn 0 cs last))
-
-pub inner-merge-regions : (h : ℕ) (l : List Region) (ds : List ℕ) (ls bs : List (Tree h × Key)) (m z : Tree h) (p p₁ p₂ : ℕ) (k j a b : Key) (cs : List (Tree (suc h) × Key)) (last : Tree (suc h))
-    → regionsIn (suc h) ((pageAt p (sunk ls l ds ++ (m, k) ∷ bs) z, j) ∷ cs) last ≡ regionsIn (suc h) ((pageAt p₁ ls m, a) ∷ (pageAt p₂ bs z, b) ∷ cs) last
-unfolding weave listed
-inner-merge-regions h l ds ls bs m z p p₁ p₂ k j a b cs last =
-    rw (weave-sunk (regions h) l ds ls bs m z k, append-assoc (regionsIn h ls m) (regionsIn h bs z) (regionsIn (suc h) cs last))
-
--- the same at the last child
-pub last-merge-regions : (l : List Region) (xs ys : List Entry) (p n p₁ n₁ p₂ n₂ : ℕ) (a : Key)
-    → regionsIn 0 [] (leafAt p n (map (clear l) (xs ++ ys))) ≡ regionsIn 0 ((leafAt p₁ n₁ xs, a) ∷ []) (leafAt p₂ n₂ ys)
-unfolding weave listed
-last-merge-regions l xs ys p n p₁ n₁ p₂ n₂ a = rw (regions-clear l (xs ++ ys), map-append regionOf xs ys)
-
-pub last-inner-merge-regions : (h : ℕ) (l : List Region) (ds : List ℕ) (ls bs : List (Tree h × Key)) (m z : Tree h) (p p₁ p₂ : ℕ) (k a : Key)
-    → regionsIn (suc h) [] (pageAt p (sunk ls l ds ++ (m, k) ∷ bs) z) ≡ regionsIn (suc h) ((pageAt p₁ ls m, a) ∷ []) (pageAt p₂ bs z)
-unfolding weave listed
-last-inner-merge-regions h l ds ls bs m z p p₁ p₂ k a = rw (weave-sunk (regions h) l ds ls bs m z k)

@@ -1,7 +1,7 @@
 -- The order of a tree read from left to right (rules 1 and 2), of every pair of starts and keys, and its nested form `In`.
 -- One strict order of codes says both rules: a start s is 2 s + 1, a key k is 2 k. The declared rule 2 compares no two keys; where no leaf is empty, that is the same.
 -- Assumes nothing.
-use Prim.Native.Nat.{ℕ, zero, suc, _+_, _-_, _*_, _≤_, _<_}
+use Prim.Native.Nat.{ℕ, zero, suc, _+_, _*_, _≤_, _<_}
 use mathlib.Core.Path.{_≡_, refl, sym, ap, ap₂, _∙_, subst}
 use mathlib.Core.List.{List, [], _∷_, _++_, map}
 use lib.Dec.{T}
@@ -15,7 +15,7 @@ use Rattle.regions.specs.declared.Region.{Region}
 use Rattle.xrtree.specs.Tree.{Entry, Key, Tree, weave, listed, regionOf, regions, Item, items, allKids}
 use Rattle.xrtree.specs.Tree.Item.{start, key}
 use Rattle.xrtree.specs.Rules.{rule2, separates, filled, filledBelow, within}
-use Rattle.xrtree.proofs.Claims.{regionsIn, Within, InKids, In}
+use Rattle.xrtree.specs.Claims.{regionsIn, Within, InKids, In}
 
 abbrev pub codeOf : Item → ℕ
 codeOf (start s) = 2 * s + 1

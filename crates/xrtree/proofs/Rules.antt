@@ -1,26 +1,20 @@
 -- THE RULES ON A TREE as document 01 declares them give `Good`, from which all laws follow (`rules-good`), and `Good` gives each of them back (`good-rules`).
 -- Assumes nothing.
-use Prim.Native.Nat.{ℕ, zero, suc, _+_, _-_, _*_, _≤_, _<_}
-use mathlib.Core.Path.{_≡_}
-use mathlib.Core.Bool.{Bool, false, _&&_, _||_}
-use mathlib.Core.List.{List, [], _∷_, _++_, map}
+use Prim.Native.Nat.{ℕ, zero, suc, _<_}
+use mathlib.Core.Bool.{Bool, _&&_, _||_}
+use mathlib.Core.List.{List, [], _∷_, map}
 use lib.Dec.{T, ltb, ltb→lt, lt→ltb}
-use lib.ListN.{length}
 use native.Mathlib.Omega.{arith}
-use Rattle.words.specs.Lists.{filter, all, allPairs, All, Pairs}
-use Rattle.words.proofs.Tests.{T-of, no-T, by-test, and-left, and-right, and-both, or-cases, or-left, or-right, nlt-of}
-use Rattle.words.proofs.Listed.{all-mono, all-two, all-append, all-left, all-right, pairs-mono, pairs-put, pairs-out, none-of}
+use Rattle.words.specs.Lists.{all, allPairs, All, Pairs}
+use Rattle.words.proofs.Tests.{T-of, by-test, and-left, and-right, and-both, or-cases, or-left, or-right, nlt-of}
+use Rattle.words.proofs.Listed.{all-mono, all-two, all-append, all-left, all-right, pairs-mono}
 use Rattle.words.proofs.Says.{Says, lt-says, all-says, pairs-say}
-use Rattle.regions.specs.Positions.{holds, wellFormed, nested, endsBefore, contains, wellBound}
+use Rattle.regions.specs.Positions.{wellFormed, nested, endsBefore, contains, wellBound}
 use Rattle.regions.specs.declared.Region.{Region}
 use Rattle.xrtree.specs.Tree.{Entry, Key, Tree, weave, listed, regionOf, regions, keysOf, items}
 use Rattle.xrtree.specs.Tree.Item.{key}
 use Rattle.xrtree.specs.Rules.{pageLists, rule2, rule3, rule4, rule5, startsFirst, filled}
-use Rattle.xrtree.specs.Search.{find, steps}
-use Rattle.xrtree.proofs.Claims.{regionsIn, keysUnder, Over, Fits, Proper, Good}
-use Rattle.xrtree.proofs.Box.{boxb, box, to-box}
-use Rattle.xrtree.proofs.Local.{keys-in}
-use Rattle.xrtree.proofs.Search.{search-right, steps-few}
+use Rattle.xrtree.specs.Claims.{regionsIn, keysUnder, Over, Proper, Good}
 use Rattle.xrtree.proofs.Order.{Bounded, Rising, itemsIn, startItem, order-in, in-order, order-rule2, rules-order}
 use Rattle.xrtree.proofs.Declared.{lists-declared, rule5-says, flags-say}
 
@@ -155,58 +149,6 @@ good-rules top h t g =
       nest = proper-nested top rs (g .set);
     }
 
--- and that all keys and ends are below top
-pub good-keys : (top h : ℕ) (t : Tree h) → Good top h t → All (λ k. k < top) (keysOf h t)
-good-keys top h t g = all-mono (λ k w. w .1) (keysOf h t) (keys-in h 0 top t (g .order))
-
-pub good-ends : (top h : ℕ) (t : Tree h) → Good top h t → All (λ (r : Region). r .end < top) (regions h t)
-good-ends top h t g = all-mono (λ r w. w .1) (regions h t) (g .set .well)
-
 -- THE SEARCH, from the rules as declared: what it finds, and its steps
-pub rules-search : (top h : ℕ) (t : Tree h) → All (λ k. k < top) (keysOf h t) → All (λ (r : Region). r .end < top) (regions h t)
-    → T (filled h t) → T (all wellFormed (regions h t)) → Ruled h t → (p : ℕ) → p < top → find h p t ≡ filter (holds p) (regions h t)
-rules-search top h t keys ends f w r p u = search-right top h t (rules-good top h t keys ends f w r) p u
-
-pub rules-steps : (h p : ℕ) (t : Tree h) → T (rule5 h t) → steps h p t ≤ suc h + 2 * length (find h p t)
-rules-steps h p t r = steps-few h p t (rule5-says h t .yes-so r)
 
 -- ONE REGION MORE, or one less
-pub set-put : (top : ℕ) (us vs : List Region) (r : Region) → Proper top (us ++ vs) → r .start < r .end → r .end < top
-    → All (λ (x : Region). x .start < r .start) us → All (λ (x : Region). r .start < x .start) vs
-    → box 0 (r .start) (r .start) (suc (r .end)) us ≡ [] → box (suc (r .start)) (suc (r .end)) (r .end) top vs ≡ []
-    → Proper top (us ++ r ∷ vs)
-unfolding box
-set-put top us vs r s w u low high a b =
-    record {
-      pairs = pairs-put Over us vs r (s .pairs) (left us low (none-of _ us a)) (right vs high (none-of _ vs b) (all-right _ us vs (s .well)));
-      well = all-append _ us (r ∷ vs) (all-left _ us vs (s .well)) ((w, u), all-right _ us vs (s .well));
-    }
-  where
-    left : (xs : List Region) → All (λ (x : Region). x .start < r .start) xs → All (λ (x : Region). boxb 0 (r .start) (r .start) (suc (r .end)) x ≡ false) xs → All (λ (x : Region). Over x r) xs
-    left [] l n = tt
-    left (x ∷ xs) l n = (
-      (
-        l .0,
-        (λ (q : r .start ≤ x .end).
-            let m : (x .end ≤ r .end → ⊥) = (λ z. no-T (n .0) (to-box 0 (r .start) (r .start) (suc (r .end)) x (omega (arith, l .0)))) in
-            omega arith),
-      ),
-      left xs (l .1) (n .1),
-    )
-
-    right : (xs : List Region) → All (λ (x : Region). r .start < x .start) xs → All (λ (x : Region). boxb (suc (r .start)) (suc (r .end)) (r .end) top x ≡ false) xs
-        → All (Fits top) xs → All (Over r) xs
-    right [] l n m = tt
-    right (x ∷ xs) l n m = (
-      (
-        l .0,
-        (λ (q : x .start ≤ r .end).
-            let k : (r .end ≤ x .end → ⊥) = (λ z. no-T (n .0) (to-box (suc (r .start)) (suc (r .end)) (r .end) top x (omega (arith, l .0, m .0)))) in
-            omega arith),
-      ),
-      right xs (l .1) (n .1) (m .1),
-    )
-
-pub set-out : (top : ℕ) (us vs : List Region) (r : Region) → Proper top (us ++ r ∷ vs) → Proper top (us ++ vs)
-set-out top us vs r s =
-    record { pairs = pairs-out Over us vs r (s .pairs); well = all-append _ us vs (all-left _ us (r ∷ vs) (s .well)) (all-right _ us (r ∷ vs) (s .well) .1) }

@@ -1,6 +1,6 @@
 -- Lemma 1 of the XR-tree paper: the search of document 01 answers the ancestors of p, outermost first; and its step bound.
 -- Assumes nothing.
-use Prim.Native.Nat.{ℕ, zero, suc, _+_, _-_, _*_, _≤_, _<_, min, max}
+use Prim.Native.Nat.{ℕ, zero, suc, _+_, _*_, _≤_, _<_, min, max}
 use mathlib.Core.Path.{_≡_, refl, sym, ap, _∙_}
 use mathlib.Core.Bool.{true, false, _&&_}
 use mathlib.Core.List.{List, [], _∷_, _++_, map}
@@ -15,10 +15,11 @@ use Rattle.regions.specs.declared.Region.{Region}
 use Rattle.xrtree.specs.Tree.{Entry, Key, Tree, weave, listed, regionOf, regions, keysOf}
 use Rattle.xrtree.specs.Rules.{noneStabs}
 use Rattle.xrtree.specs.Search.{run, looks, cost, findKids, stepsKids, holdsFree, find, steps}
-use Rattle.xrtree.proofs.Claims.{regionsIn, InKids, In, Over, Fits, Kids, pairIs, PairsIn, Firsts, Good}
-use Rattle.xrtree.proofs.Box.{box, InBox, of-holds, to-holds, is-box-in, box-take, cut-start, cut-end}
-use Rattle.xrtree.proofs.Local.{leaf-box, gap-root, LocalKids, Local, FlagKids, LocalFlags, lists-local, FitsIn, flags-local}
-use Rattle.xrtree.proofs.Here.{Here, here-all, here-child, here-next}
+use Rattle.xrtree.specs.Claims.{regionsIn, InKids, In, Over, Fits, Kids, pairIs, PairsIn, Firsts, Good}
+use Rattle.xrtree.specs.Local.{box, InBox, LocalKids, Local, FlagKids, LocalFlags, Here}
+use Rattle.xrtree.proofs.Box.{of-holds, to-holds, is-box-in, box-take, cut-start, cut-end}
+use Rattle.xrtree.proofs.Local.{leaf-box, gap-root, lists-local, FitsIn, flags-local}
+use Rattle.xrtree.proofs.Here.{here-all, here-child, here-next}
 
 -- the stored pair only spares the look at a list whose beginning is empty
 none-run : (p : ℕ) (k : Key) (l : List Region) → pairIs k l → (ltb (k .pairStart) p && ltb p (k .pairEnd)) ≡ false → takeWhile (holds p) l ≡ []

@@ -1,6 +1,6 @@
 -- Pages before and after a split or a merge: lists and bounds, whole pages at a time.
 -- Assumes nothing.
-use Prim.Native.Nat.{ℕ, suc, _+_, _-_, _≤_, _<_}
+use Prim.Native.Nat.{ℕ, suc, _≤_, _<_}
 use mathlib.Core.Path.{_≡_, sym, ap, ap₂, _∙_}
 use mathlib.Core.Bool.{_&&_, cond}
 use mathlib.Core.List.{List, [], _∷_, _++_, map}
@@ -13,18 +13,16 @@ use Rattle.regions.specs.Positions.{stabs}
 use Rattle.regions.specs.declared.Region.{Region}
 use Rattle.xrtree.specs.Tree.{Entry, Key, regionOf}
 use Rattle.xrtree.specs.Tree.Item.{key}
-use Rattle.xrtree.proofs.Claims.{Page, InKids, Over, flagOf}
-use Rattle.xrtree.proofs.Box.{home, of-stabs, to-stabs}
-use Rattle.xrtree.proofs.Local.{leaf-box, LocalKids, FlagKids, FlagsAre}
-use Rattle.xrtree.proofs.Here.{Here}
+use Rattle.xrtree.specs.Claims.{Page, InKids, Over, flagOf}
+use Rattle.xrtree.specs.Local.{home, LocalKids, FlagKids, FlagsAre, Here}
+use Rattle.xrtree.proofs.Box.{of-stabs, to-stabs}
+use Rattle.xrtree.proofs.Local.{leaf-box}
 use Rattle.xrtree.proofs.Lift.{put-new, put-next, up-new, up-left, out-next, out-rest, down-left, down-rest}
+use Rattle.xrtree.specs.Holes.{loAfter}
+use Rattle.xrtree.specs.Moves.{keptPlaces, keyWith, leftOver, marked, raised, sunk, trim}
 
 -- PART OF A PAGE. The lower bound behind some keys, and any claim on a page from there on
 module _ {A : Type 0} where
-  unfoldable pub loAfter : ℕ → List (A × Key) → ℕ
-  loAfter lo [] = lo
-  loAfter lo (c ∷ cs) = loAfter (suc (c .1 .key)) cs
-
   pub record At (Q : ℕ → ℕ → Key → Type 0) (P : ℕ → ℕ → A → Type 0) (lo hi : ℕ) (pre cs : List (A × Key)) (last : A) : Type 0 where
     pub here : Page Q P (loAfter lo pre) hi cs last
     pub refill : (cs′ : List (A × Key)) (last′ : A) → Page Q P (loAfter lo pre) hi cs′ last′ → Page Q P lo hi (pre ++ cs′) last′
@@ -38,23 +36,6 @@ module _ {A : Type 0} where
       record { here = r .here; refill = λ cs′ last′ w. (g .0, g .1, r .refill cs′ last′ w) }
 
 -- A KEY WITH ANOTHER LIST, and the stored pair that belongs to it. (Where the records lie is any list of places)
-unfoldable pub firstStart : List Region → ℕ
-firstStart [] = 0
-firstStart (r ∷ rs) = r .start
-
-unfoldable pub firstEnd : List Region → ℕ
-firstEnd [] = 0
-firstEnd (r ∷ rs) = r .end
-
-abbrev pub keyWith : ℕ → List ℕ → List Region → Key
-keyWith k ps l = record { key = k; pairStart = firstStart l; pairEnd = firstEnd l; places = ps; list = l }
-
--- a list's beginning that key k stabs, and the rest, by their places
-abbrev pub movedPlaces : ℕ → List Region → List ℕ → List ℕ
-movedPlaces k l ps = take (length (takeWhile (stabs k) l)) ps
-
-abbrev pub keptPlaces : ℕ → List Region → List ℕ → List ℕ
-keptPlaces k l ps = drop (length (takeWhile (stabs k) l)) ps
 
 -- LEAF SPLIT. What the new key stabs of the entries in no list
 module _ (rs : List Region) where
@@ -64,10 +45,6 @@ module _ (rs : List Region) where
   fresh-is k lo hi l u es f q =
       leaf-box (stabs k) lo (suc k) k hi (λ r a b h. let s = of-stabs k r h in omega arith) (λ r i. to-stabs k r (omega arith)) es f
       ∙ sym (q .same lo (suc k) k hi (omega arith) u)
-
--- flags: an entry that k stabs gets 1, all others keep theirs
-unfoldable pub marked : ℕ → Entry → Entry
-marked k e = record { region = e .region; flag = cond (stabs k (e .region)) 1 (e .flag) }
 
 flag-left : (k lo hi : ℕ) → k < hi → (r : Region) → r .start < k → flagOf (leb lo (r .start) && ltb (r .end) k) ≡ cond (stabs k r) 1 (flagOf (leb lo (r .start) && ltb (r .end) hi))
 flag-left k lo hi u r s =
@@ -101,35 +78,7 @@ unfolding marked
 flags-right k lo hi l [] s f = tt
 flags-right k lo hi l (e ∷ es) s f =
     (ap (cond (stabs k (e .region)) 1) (f .0) ∙ sym (flag-right k lo hi l (e .region) (s .0 .0) (s .0 .1)), flags-right k lo hi l es (s .1) (f .1))
-
--- AN INNER PAGE CUT AT KEY k: what the keys left of k keep, and k's list (`raised`), with the places of its records
-module _ {A : Type 0} where
-  unfoldable pub trim : ℕ → List (A × Key) → List (A × Key)
-  trim k [] = []
-  trim k (c ∷ cs) = (c .0, keyWith (c .1 .key) (keptPlaces k (c .1 .list) (c .1 .places)) (dropWhile (stabs k) (c .1 .list))) ∷ trim k cs
-
-  unfoldable pub raised : ℕ → List (A × Key) → List Region → List Region
-  raised k [] l = l
-  raised k (c ∷ cs) l = takeWhile (stabs k) (c .1 .list) ++ raised k cs l
-
-  unfoldable pub raisedPlaces : ℕ → List (A × Key) → List ℕ → List ℕ
-  raisedPlaces k [] ps = ps
-  raisedPlaces k (c ∷ cs) ps = movedPlaces k (c .1 .list) (c .1 .places) ++ raisedPlaces k cs ps
-
-  -- A KEY CAME DOWN with its list l at places ps: each key left of it takes what it stabs, first to last (`sunk`); and what is left
-  unfoldable pub sunk : List (A × Key) → List Region → List ℕ → List (A × Key)
-  sunk [] l ps = []
-  sunk (c ∷ cs) l ps =
-      (c .0, keyWith (c .1 .key) (movedPlaces (c .1 .key) l ps ++ c .1 .places) (takeWhile (stabs (c .1 .key)) l ++ c .1 .list))
-      ∷ sunk cs (dropWhile (stabs (c .1 .key)) l) (keptPlaces (c .1 .key) l ps)
-
-  unfoldable pub leftOver : List (A × Key) → List Region → List Region
-  leftOver [] l = l
-  leftOver (c ∷ cs) l = leftOver cs (dropWhile (stabs (c .1 .key)) l)
-
-  unfoldable pub overPlaces : List (A × Key) → List Region → List ℕ → List ℕ
-  overPlaces [] l ps = ps
-  overPlaces (c ∷ cs) l ps = overPlaces cs (dropWhile (stabs (c .1 .key)) l) (keptPlaces (c .1 .key) l ps)
+    -- A KEY CAME DOWN with its list l at places ps: each key left of it takes what it stabs, first to last (`sunk`); and what is left
 
 module _ (rs : List Region) (o : Pairs Over rs) {A : Type 0} (R P : ℕ → ℕ → A → Type 0) where
   -- A CHILD BECAME TWO, with the key k between them, whose list so far is home lo k hi′ (hi′ the child's upper bound): the page above
@@ -142,10 +91,6 @@ module _ (rs : List Region) (o : Pairs Over rs) {A : Type 0} (R P : ℕ → ℕ 
     p,
     (ap (dropWhile (stabs k)) (g .0) ∙ put-next rs o lo k (j .key) hi a b, q, g .2),
   )
-
-  pub split-last : (ps : List ℕ) (lo hi k : ℕ) (l r : A) (fresh : List Region) → fresh ≡ home lo k hi rs → P lo k l → P (suc k) hi r
-      → LocalKids rs P lo hi ((l, keyWith k ps fresh) ∷ []) r
-  split-last ps lo hi k l r fresh e p q = (e, p, q)
 
   -- TWO CHILDREN BECAME ONE: the key k between them leaves the page; what is left of its list is home lo k hi′, hi′ the new child's upper bound
   pub merge-mid : (ps : List ℕ) (lo hi : ℕ) (l r c : A) (k j : Key) (cs : List (A × Key)) (last : A)

@@ -1,22 +1,22 @@
 -- SPLITS of a leaf and of an inner page, at the first key of a page: a sound part goes to a sound part with the same regions.
 -- `part-at` and `part-end` bring them to any key of a page, `Spot` of Whole to any page of a tree. Places of pages and records are any.
 -- Assumes nothing.
-use Prim.Native.Nat.{ℕ, zero, suc, _+_, _-_, _≤_, _<_}
+use Prim.Native.Nat.{ℕ, zero, suc, _≤_, _<_}
 use mathlib.Core.Path.{_≡_, refl, sym, ap, _∙_, subst}
 use mathlib.Core.Bool.{_&&_}
 use mathlib.Core.List.{List, [], _∷_, _++_, map, append-nil, append-assoc}
 use lib.Dec.{eqb}
 use native.Mathlib.Omega.{arith}
 use Rattle.words.specs.Lists.{filter, takeWhile, dropWhile, All, Pairs}
-use Rattle.words.proofs.Listed.{all-left, all-right, map-append}
+use Rattle.words.proofs.Listed.{all-left, all-right}
 use Rattle.regions.specs.Positions.{stabs}
 use Rattle.regions.specs.declared.Region.{Region}
-use Rattle.xrtree.specs.Tree.{Entry, Key, Leaf, Tree, weave, listed, regionOf, regions}
-use Rattle.xrtree.proofs.Claims.{leafAt, pageAt, regionsIn, Page, Claim, Between, Within, In, Over, pairIs}
-use Rattle.xrtree.proofs.Local.{ListIs, NoLeaf, NoKey, Local, LocalFlags}
-use Rattle.xrtree.proofs.Here.{Here}
-use Rattle.xrtree.proofs.Splice.{loAfter, page-at, firstStart, firstEnd, keyWith, fresh-is, marked, flags-left, flags-right, split-mid, trim, raised, cut-page, in-cut, flag-cut, keptPlaces}
-use Rattle.xrtree.proofs.Whole.{FirstIs, Part}
+use Rattle.xrtree.specs.Tree.{Entry, Key, Leaf, Tree, weave, regionOf}
+use Rattle.xrtree.specs.Claims.{leafAt, pageAt, Page, Claim, Between, Within, In, Over, pairIs}
+use Rattle.xrtree.specs.Local.{ListIs, NoLeaf, NoKey, Local, LocalFlags, Here, FirstIs, Part}
+use Rattle.xrtree.specs.Holes.{loAfter}
+use Rattle.xrtree.specs.Moves.{firstStart, firstEnd, keyWith, marked, trim, raised, keptPlaces, fresh}
+use Rattle.xrtree.proofs.Splice.{page-at, fresh-is, flags-left, flags-right, split-mid, cut-page, in-cut, flag-cut}
 
 -- AT ANY KEY of a page
 pub record PartAt (rs : List Region) (h lo hi q : ℕ) (pre cs : List (Tree h × Key)) (last : Tree h) : Type 0 where
@@ -41,11 +41,6 @@ part-end rs h lo hi q pre last p = part-at rs h lo hi q pre [] last (subst (λ (
 
 -- what is listed of a page, from a key on
 module _ {A B : Type 0} (f : A → List B) (g : Key → List B) where
-  pub weave-pre : (pre cs cs′ : List (A × Key)) (last last′ : A) → weave f g cs last ≡ weave f g cs′ last′ → weave f g (pre ++ cs) last ≡ weave f g (pre ++ cs′) last′
-  unfolding weave
-  weave-pre [] cs cs′ last last′ e = e
-  weave-pre (c ∷ pre) cs cs′ last last′ e = ap (λ (z : List B). f (c .0) ++ (g (c .1) ++ z)) (weave-pre pre cs cs′ last last′ e)
-
   pub weave-two : (cs ds : List (A × Key)) (m last : A) (k : Key) → weave f g (cs ++ (m, k) ∷ ds) last ≡ weave f g cs m ++ (g k ++ weave f g ds last)
   unfolding weave
   weave-two [] ds m last k = refl
@@ -72,10 +67,6 @@ pub regions-marked : (k : ℕ) (xs : List Entry) → map regionOf (map (marked k
 unfolding marked
 regions-marked k [] = refl
 regions-marked k (e ∷ es) = ap (e .region ∷_) (regions-marked k es)
-
--- the entries in no list that k stabs
-unfoldable pub fresh : ℕ → List Entry → List Region
-fresh k es = map regionOf (filter (λ (e : Entry). eqb (e .flag) 0 && stabs k (e .region)) es)
 
 -- p, n: place and next of the leaf; p₁, n₁ and p₂, n₂: of the two it becomes; q, q′: the page's place; ps, qs: the places of the two keys' records
 module _ (rs : List Region) (o : Pairs Over rs) (lo hi k : ℕ) (xs ys : List Entry) (p n p₁ n₁ p₂ n₂ q q′ : ℕ) (ps qs : List ℕ)
@@ -163,30 +154,3 @@ module _ (rs : List Region) (o : Pairs Over rs) (h lo hi : ℕ) (ls bs : List (T
       }
 
 -- THE REGIONS STAY
-pub weave-trim : {A : Type 0} (f : A → List Region) (k : ℕ) (cs : List (A × Key)) (m : A) → weave f (λ (k : Key). []) (trim k cs) m ≡ weave f (λ (k : Key). []) cs m
-unfolding weave trim
-weave-trim f k [] m = refl
-weave-trim f k (c ∷ cs) m = ap (λ (z : List Region). f (c .0) ++ z) (weave-trim f k cs m)
-
-pub leaf-split-regions : (k : ℕ) (xs ys : List Entry) (p n p₁ n₁ p₂ n₂ : ℕ) (j a b : Key) (cs : List (Leaf × Key)) (last : Leaf)
-    → regionsIn 0 ((leafAt p₁ n₁ (map (marked k) xs), a) ∷ (leafAt p₂ n₂ (map (marked k) ys), b) ∷ cs) last ≡ regionsIn 0 ((leafAt p n (xs ++ ys), j) ∷ cs) last
-unfolding weave listed
-leaf-split-regions k xs ys p n p₁ n₁ p₂ n₂ j a b cs last =
-    rw (regions-marked k xs, regions-marked k ys, map-append regionOf xs ys, append-assoc (map regionOf xs) (map regionOf ys) (regionsIn 0 cs last))
-
-pub inner-split-regions : (h : ℕ) (ls bs : List (Tree h × Key)) (m z : Tree h) (p p₁ p₂ : ℕ) (k j a b : Key) (cs : List (Tree (suc h) × Key)) (last : Tree (suc h))
-    → regionsIn (suc h) ((pageAt p₁ (trim (k .key) ls) m, a) ∷ (pageAt p₂ bs z, b) ∷ cs) last ≡ regionsIn (suc h) ((pageAt p (ls ++ (m, k) ∷ bs) z, j) ∷ cs) last
-unfolding weave listed
-inner-split-regions h ls bs m z p p₁ p₂ k j a b cs last =
-    rw (weave-trim (regions h) (k .key) ls m, weave-two (regions h) (λ (k : Key). []) ls bs m z k, append-assoc (regionsIn h ls m) (regionsIn h bs z) (regionsIn (suc h) cs last))
-
--- the same at the last child
-pub last-split-regions : (k : ℕ) (xs ys : List Entry) (p n p₁ n₁ p₂ n₂ : ℕ) (a : Key)
-    → regionsIn 0 ((leafAt p₁ n₁ (map (marked k) xs), a) ∷ []) (leafAt p₂ n₂ (map (marked k) ys)) ≡ regionsIn 0 [] (leafAt p n (xs ++ ys))
-unfolding weave listed
-last-split-regions k xs ys p n p₁ n₁ p₂ n₂ a = rw (regions-marked k xs, regions-marked k ys, map-append regionOf xs ys)
-
-pub last-inner-split-regions : (h : ℕ) (ls bs : List (Tree h × Key)) (m z : Tree h) (p p₁ p₂ : ℕ) (k a : Key)
-    → regionsIn (suc h) ((pageAt p₁ (trim (k .key) ls) m, a) ∷ []) (pageAt p₂ bs z) ≡ regionsIn (suc h) [] (pageAt p (ls ++ (m, k) ∷ bs) z)
-unfolding weave listed
-last-inner-split-regions h ls bs m z p p₁ p₂ k a = rw (weave-trim (regions h) (k .key) ls m, weave-two (regions h) (λ (k : Key). []) ls bs m z k)

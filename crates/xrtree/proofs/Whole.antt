@@ -1,6 +1,6 @@
 -- A good tree in one local form, and a tree with a hole: what a step on one page keeps, the whole tree keeps.
 -- Assumes nothing.
-use Prim.Native.Nat.{ℕ, zero, suc, _+_, _-_}
+use Prim.Native.Nat.{ℕ, zero, suc, _+_}
 use mathlib.Core.Path.{_≡_, refl, sym, ap, ap₂, _∙_, subst}
 use mathlib.Core.Bool.{true}
 use mathlib.Core.Logic.{_↔_}
@@ -10,16 +10,15 @@ use mathlib.Core.List.{List, [], _∷_, _++_, append-nil, append-assoc}
 use Rattle.words.specs.Lists.{all}
 use Rattle.words.proofs.Tests.{and-true}
 use Rattle.regions.specs.declared.Region.{Region}
-use Rattle.xrtree.specs.Tree.{Entry, Key, Inner, Tree, Listing, weave, listed, listRegions, regions, keysOf}
+use Rattle.xrtree.specs.Tree.{Entry, Key, Inner, Tree, Listing, weave, listed, regions, keysOf}
 use Rattle.xrtree.specs.Rules.{noneStabs}
-use Rattle.xrtree.proofs.Claims.{pageAt, regionsIn, Page, Claim, Between, Within, InKids, In, Proper, Kids, pairIs, PairsIn, Firsts, Good}
-use Rattle.xrtree.proofs.Local.{gap-root, ListIs, NoLeaf, NoKey, Local, FlagsAre, LocalFlags, lists-local, flags-local}
-use Rattle.xrtree.proofs.Here.{Here, here-all, here-child, here-next}
+use Rattle.xrtree.specs.Claims.{pageAt, regionsIn, Page, Claim, Between, InKids, In, Proper, Kids, pairIs, PairsIn, Firsts, Good}
+use Rattle.xrtree.specs.Local.{NoLeaf, Local, LocalFlags, Here, FirstIs, Part, Sound}
+use Rattle.xrtree.proofs.Local.{gap-root, lists-local, flags-local}
+use Rattle.xrtree.proofs.Here.{here-child, here-next}
 use Rattle.xrtree.proofs.Search.{fits-in, good-local, good-flags}
-use Rattle.xrtree.proofs.Splice.{loAfter}
-
-abbrev pub FirstIs : ℕ → ℕ → Key → Type 0
-FirstIs lo hi k = pairIs k (k .list)
+use Rattle.xrtree.specs.Holes.{loAfter, Ctx, Post, fillKids, fillLast, hiAt, hiPost, loAt, plug, up}
+use Rattle.xrtree.specs.Holes.Post.{atEnd, atKey}
 
 first-kids : (h : ℕ) → ((lo hi : ℕ) (c : Tree h) → Firsts h c ↔ Claim FirstIs NoLeaf h lo hi c) → (lo hi : ℕ) (cs : List (Tree h × Key)) (last : Tree h)
     → (PairsIn cs × Kids (Firsts h) cs last) ↔ Page FirstIs (Claim FirstIs NoLeaf h) lo hi cs last
@@ -34,17 +33,6 @@ firsts-claim zero lo hi t = ((λ a. a), (λ a. a))
 firsts-claim (suc h) lo hi t = first-kids h (λ lo hi c. firsts-claim h lo hi c) lo hi (t .kids) (t .last)
 
 -- THE LOCAL FORM of a part of a tree whose regions are among rs
-pub record Part (rs : List Region) (h : ℕ) (lo hi : ℕ) (t : Tree h) : Type 0 where
-  pub order : In h lo hi t
-  pub lists : Local h rs lo hi t
-  pub flags : LocalFlags h lo hi t
-  pub firsts : Claim FirstIs NoLeaf h lo hi t
-
--- of a whole tree: GOOD ⟺ SOUND
-pub record Sound (top : ℕ) (rs : List Region) (h : ℕ) (t : Tree h) : Type 0 where
-  pub part : Part rs h 0 top t
-  pub held : regions h t ≡ rs
-  pub set : Proper top rs
 
 pub good-sound : (top h : ℕ) (t : Tree h) → Good top h t → Sound top (regions h t) h t
 good-sound top h t g =
@@ -70,24 +58,6 @@ pub sound-good : (top : ℕ) (rs : List Region) (h : ℕ) (t : Tree h) → Sound
 sound-good top rs h t s = sound-good-at top h t (subst (λ z. Sound top z h t) (sym (s .held)) s)
 
 -- A HOLE among the children of a page: some keys before it, and a key with what follows, or nothing
-pub data Post (A : Type 0) : Type 0 where
-  atKey : Key → List (A × Key) → A → Post A
-  atEnd : Post A
-
-abbrev pub fillKids : {A : Type 0} → List (A × Key) → Post A → A → List (A × Key)
-fillKids pre (atKey k cs last) t = pre ++ (t, k) ∷ cs
-fillKids pre atEnd t = pre
-
-abbrev pub fillLast : {A : Type 0} → Post A → A → A
-fillLast (atKey k cs last) t = last
-fillLast atEnd t = t
-
-abbrev pub fill : {A : Type 0} → ℕ → List (A × Key) → Post A → A → Inner A
-fill q pre post t = pageAt q (fillKids pre post t) (fillLast post t)
-
-abbrev pub hiPost : {A : Type 0} → ℕ → Post A → ℕ
-hiPost hi (atKey k cs last) = k .key
-hiPost hi atEnd = hi
 
 pub hole-page : {A : Type 0} (Q : ℕ → ℕ → Key → Type 0) (P : ℕ → ℕ → A → Type 0) (lo hi : ℕ) (pre : List (A × Key)) (post : Post A) (t : A)
     → Page Q P lo hi (fillKids pre post t) (fillLast post t)
@@ -103,25 +73,6 @@ hole-page Q P lo hi (c ∷ pre) atEnd t g =
     (r .0, (λ t′ w. (g .0, g .1, r .1 t′ w)))
 
 -- THE WAY DOWN to a hole d pages below: each page's place, the keys before the way, what follows it
-abbrev pub up : ℕ → ℕ → ℕ
-up zero m = m
-up (suc d) m = suc (up d m)
-
-abbrev pub Ctx : ℕ → ℕ → Type 0
-Ctx zero m = Unit {0}
-Ctx (suc d) m = ℕ × List (Tree (up d m) × Key) × Post (Tree (up d m)) × Ctx d m
-
-abbrev pub plug : (d m : ℕ) → Ctx d m → Tree m → Tree (up d m)
-plug zero m c t = t
-plug (suc d) m c t = fill (c .0) (c .1) (c .2) (plug d m (c .3) t)
-
-abbrev pub loAt : (d m : ℕ) → ℕ → Ctx d m → ℕ
-loAt zero m lo c = lo
-loAt (suc d) m lo c = loAt d m (loAfter lo (c .1)) (c .3)
-
-abbrev pub hiAt : (d m : ℕ) → ℕ → Ctx d m → ℕ
-hiAt zero m hi c = hi
-hiAt (suc d) m hi c = hiAt d m (hiPost hi (c .2)) (c .3)
 
 -- any claim: what it says at the hole, and that whatever keeps it there keeps it of the whole
 pub hole : (Q : ℕ → ℕ → Key → Type 0) (L : ℕ → ℕ → List Entry → Type 0) (d m lo hi : ℕ) (c : Ctx d m) (t : Tree m) → Claim Q L (up d m) lo hi (plug d m c t)
@@ -205,21 +156,3 @@ pub record Spot (top : ℕ) (rs : List Region) (d m : ℕ) (c : Ctx d m) (t : Tr
   pub part : Part rs m (loAt d m 0 c) (hiAt d m top c) t
   pub near : Here rs (loAt d m 0 c) (hiAt d m top c) (regions m t)
   pub refill : (t′ : Tree m) → Part rs m (loAt d m 0 c) (hiAt d m top c) t′ → regions m t′ ≡ regions m t → Sound top rs (up d m) (plug d m c t′)
-
-pub spot : (top : ℕ) (rs : List Region) (d m : ℕ) (c : Ctx d m) (t : Tree m) → Sound top rs (up d m) (plug d m c t) → Spot top rs d m c t
-spot top rs d m c t s =
-    let p = s .part in
-    let a = hole Between Within d m 0 top c t (p .order) in
-    let b = hole (ListIs rs) NoLeaf d m 0 top c t (p .lists) in
-    let f = hole NoKey FlagsAre d m 0 top c t (p .flags) in
-    let g = hole FirstIs NoLeaf d m 0 top c t (p .firsts) in
-    record {
-      part = record { order = a .0; lists = b .0; flags = f .0; firsts = g .0 };
-      near = here-plug d m 0 top c t (subst (λ z. Here rs 0 top z) (sym (s .held)) (here-all rs 0 top)) (p .order);
-      refill = λ t′ w e.
-          record {
-            part = record { order = a .1 t′ (w .order); lists = b .1 t′ (w .lists); flags = f .1 t′ (w .flags); firsts = g .1 t′ (w .firsts) };
-            held = listed-plug listRegions d m c t′ t e ∙ s .held;
-            set = s .set;
-          };
-    }

@@ -1,15 +1,16 @@
 -- Document 01, "A valid image": the rules on the tree, in its order. (D4.n: point n of Definition 4 of the source.)
 -- Assumes nothing.
-use Prim.Native.Nat.{ℕ, zero, suc, _+_, _-_}
+use Prim.Native.Nat.{ℕ, zero, suc, _-_}
 use mathlib.Core.Bool.{Bool, true, false, _&&_, not, cond}
-use mathlib.Core.List.{List, [], _∷_, _++_, map}
+use mathlib.Core.List.{List, [], _∷_, _++_}
 use lib.Dec.{leb, ltb, eqb}
-use lib.ListN.{length, getD}
+use lib.ListN.{length}
 use Rattle.words.specs.Lists.{filter, all, allPairs, count, sum}
+use Rattle.regions.specs.Limits.{accountCount, mostRegions}
 use Rattle.regions.specs.Positions.{wellFormed, nested, stabs}
 use Rattle.regions.specs.Sets.{Set, heldBy, shareOf}
 use Rattle.regions.specs.declared.Region.{Region}
-use Rattle.xrtree.specs.Tree.{Entry, Key, Leaf, Inner, Tree, Item, regions, keysOf, leaves, items, keysIn, stabList, allKids}
+use Rattle.xrtree.specs.Tree.{Entry, Key, Leaf, Tree, Item, regions, keysOf, leaves, items, keysIn, stabList, allKids}
 use Rattle.xrtree.specs.Tree.Item.{start, key}
 
 -- RULE 1 (D4.1, D4.2, D4.7): leaves at one depth, as the tree's form has them; linked left to right; starts ascending; fills
@@ -118,7 +119,7 @@ sharesKept zero S = true
 sharesKept (suc a) S = leb (heldBy a S) (shareOf a S) && sharesKept a S
 
 unfoldable pub rule6 : Set → Bool
-rule6 S = all wellFormed (S .regions) && (allPairs nested (S .regions) && (sharesKept 16 S && leb (sum (S .shares)) 500))
+rule6 S = all wellFormed (S .regions) && (allPairs nested (S .regions) && (sharesKept accountCount S && leb (sum (S .shares)) mostRegions))
 
 -- RULE 7: of the places 1 to n, those in use are listed once and the others not at all; no other place is listed
 unfoldable pub onceOrFree : (ℕ → Bool) → ℕ → List ℕ → Bool

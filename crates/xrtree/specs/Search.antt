@@ -1,13 +1,13 @@
 -- Document 01, "Calls": the search of a tree for the ancestors of a position p, along p's path, and its step count.
 -- Assumes nothing.
 use Prim.Native.Nat.{ℕ, zero, suc, _+_}
-use mathlib.Core.Bool.{Bool, true, false, _&&_, cond}
+use mathlib.Core.Bool.{Bool, _&&_, cond}
 use mathlib.Core.List.{List, [], _∷_, _++_, map}
 use lib.Dec.{ltb, eqb}
 use Rattle.words.specs.Lists.{filter, takeWhile}
 use Rattle.regions.specs.Positions.{holds}
 use Rattle.regions.specs.declared.Region.{Region}
-use Rattle.xrtree.specs.Tree.{Entry, Key, Leaf, Inner, Tree, regionOf}
+use Rattle.xrtree.specs.Tree.{Entry, Key, Tree, regionOf}
 
 -- p lies between the two positions of a key's stored pair
 abbrev pub pairHolds : ℕ → Key → Bool

@@ -1,7 +1,7 @@
 -- Document 01, "A valid image", of what its rules speak of: an XR-tree on plain values, as the image holds it: pages with their places, leaf entries with their flags, keys with their stored pairs and lists.
 -- Assumes nothing.
-use Prim.Native.Nat.{ℕ, zero, suc, _+_}
-use mathlib.Core.Bool.{Bool, true, false, _&&_}
+use Prim.Native.Nat.{ℕ, zero, suc}
+use mathlib.Core.Bool.{Bool, _&&_}
 use mathlib.Core.List.{List, [], _∷_, _++_, map}
 use lib.ListN.{length}
 use Rattle.regions.specs.declared.Region.{Region}

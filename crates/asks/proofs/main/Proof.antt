@@ -1,10 +1,9 @@
 -- `asks::main` is safe and ends.
 -- Assumes nothing.
 use borrow.Author.Needs.{needs}
-use Prim.Native.Nat.{_+_, _-_, _≤_}
-use mathlib.Core.Path.{_≡_, _∙_}
-use native.Mathlib.Omega.{arith}
-use lib.ListN.{length, length-set}
+use Prim.Native.Nat.{_-_, _≤_}
+use mathlib.Core.Path.{_≡_}
+use lib.ListN.{length}
 use Rattle.asks.proofs.main.Statement.{statement}
 use Rattle.asks.proofs.main.Tie as tie
 use Rattle.console.proofs.next_word.Reads as next-word-reads

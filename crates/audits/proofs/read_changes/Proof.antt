@@ -1,10 +1,9 @@
 -- `audits::read_changes` is safe and ends.
 -- Assumes nothing.
 use borrow.Author.Needs.{needs}
-use Prim.Native.Nat.{_+_, _-_, _≤_}
-use mathlib.Core.Path.{_≡_, _∙_}
-use native.Mathlib.Omega.{arith}
-use lib.ListN.{length, length-set}
+use Prim.Native.Nat.{_-_, _≤_}
+use mathlib.Core.Path.{_≡_}
+use lib.ListN.{length}
 use Rattle.audits.proofs.read_changes.Statement.{statement}
 use Rattle.audits.proofs.read_changes.Tie as tie
 use Rattle.audits.proofs.at_most_8.Reads as at-most-8-reads

@@ -2,7 +2,6 @@
 -- Assumes nothing.
 use borrow.Author.Needs.{needs}
 use mathlib.Core.Path.{refl, sym, _∙_}
-use denote.Ref.{now}
 use Rattle.changes.proofs.delete.Statement.{statement}
 use Rattle.changes.proofs.delete.Tie as tie
 use Rattle.remove.proofs.remove.Reads as remove-reads

@@ -2,7 +2,6 @@
 -- Assumes nothing.
 use borrow.Author.Needs.{needs}
 use mathlib.Core.Path.{refl, sym, _∙_}
-use denote.Ref.{now}
 use Rattle.changes.proofs.save.Statement.{statement}
 use Rattle.changes.proofs.save.Tie as tie
 use Rattle.insert.proofs.insert.Reads as insert-reads

@@ -1,7 +1,7 @@
 -- `desk::part_number_by_value` meets its contract: a walk of its MIR, by hand. The seats stand in a local array, which is lent as a shared slice for a lifetime of the call; the number that `part_number` tells is the result.
 -- Assumes nothing.
 use mathlib.Core.Path.{refl, ap}
-use Prim.Native.Nat.{ℕ, _-_, _<_, _^_}
+use Prim.Native.Nat.{ℕ, _<_, _^_}
 use mathlib.Core.List.{List, [], _∷_}
 use lib.Dec.{lit<}
 use lib.ListN.{length}

@@ -1,7 +1,7 @@
 -- `desk::round_by_value` meets its contract: a walk of its MIR, by hand. The seats stand in a local array, which is lent as a slice for a lifetime of the call, and comes back at the list that `round` leaves. The buffer goes to the call for good.
 -- Assumes nothing.
 use mathlib.Core.Path.{_≡_, refl, ap, subst}
-use Prim.Native.Nat.{ℕ, _-_, _<_, _^_}
+use Prim.Native.Nat.{ℕ, _<_, _^_}
 use mathlib.Core.List.{List, [], _∷_, map}
 use lib.Dec.{lit<}
 use lib.ListN.{length}

@@ -2,9 +2,7 @@
 -- Assumes nothing.
 use borrow.Author.Needs.{needs}
 use mathlib.Core.Path.{sym, _∙_}
-use denote.Ref.{now}
-use native.Mathlib.Omega.{arith}
-use Rattle.words.proofs.Tests.{T-of, not-true, not-false}
+use Rattle.words.proofs.Tests.{not-true, not-false}
 use Rattle.index.proofs.Answers.{image-number, own-number, bounds-wrong, bounds-foreign, bounds-own}
 use Rattle.index.proofs.bounds_number.Statement.{statement}
 use Rattle.index.proofs.bounds_number.Tie as tie

@@ -5,13 +5,12 @@ use mathlib.Core.Path.{sym, _∙_}
 use denote.Ref.{now}
 use Rattle.regions.specs.Calls.{boundsNo}
 use Rattle.image.specs.Valid.{valid}
-use native.Mathlib.Omega.{arith}
-use Rattle.words.proofs.Tests.{T-of, not-true, not-false}
+use Rattle.words.proofs.Tests.{T-of}
 use Rattle.index.proofs.Answers.{image-right, lists-refused, lists-found}
 use Rattle.index.proofs.find_descendants.Statement.{statement}
 use Rattle.index.proofs.find_descendants.Tie as tie
 use Rattle.index.proofs.bounds_number.Reads as bounds-number-reads
-use Rattle.inward.proofs.descendants.Reads as descendants-reads
+use Rattle.inside.proofs.descendants.Reads as descendants-reads
 
 bounds-number-requires : tie.Need-bounds-number-requires
 bounds-number-requires c κs = search needs

@@ -4,7 +4,7 @@ use borrow.Author.Needs.{needs}
 use Prim.Native.Nat.{_+_, _-_, _≤_}
 use mathlib.Core.Path.{_≡_, refl, sym}
 use native.Mathlib.Omega.{arith}
-use lib.ListN.{drop, length}
+use lib.ListN.{drop}
 use Rattle.words.specs.Lists.{sum}
 use Rattle.words.proofs.Tests.{le-yes, le-no}
 use Rattle.index.proofs.Opened.{sum-more, sum-none}

@@ -1,10 +1,9 @@
 -- `listing::copy_words` meets its contract.
 -- Assumes nothing.
 use borrow.Author.Needs.{needs}
-use Prim.Native.Nat.{_+_, _-_, _≤_}
-use mathlib.Core.Path.{_≡_, refl, sym, _∙_}
+use Prim.Native.Nat.{_-_, _≤_}
+use mathlib.Core.Path.{_≡_}
 use native.Mathlib.Omega.{arith}
-use denote.Ref.{now}
 use lib.ListN.{length, take, length-set}
 use Rattle.listing.proofs.Copied.{copied-on, copied-all}
 use Rattle.listing.proofs.copy_words.Statement.{statement}

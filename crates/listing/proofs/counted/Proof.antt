@@ -1,7 +1,7 @@
 -- `listing::counted` meets its contract.
 -- Assumes nothing.
 use borrow.Author.Needs.{needs}
-use mathlib.Core.Path.{ap, _∙_}
+use mathlib.Core.Path.{ap}
 use native.Mathlib.Omega.{arith}
 use lib.ListN.{getD}
 use Rattle.listing.proofs.Copied.{raised}

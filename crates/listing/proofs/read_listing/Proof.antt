@@ -1,8 +1,7 @@
 -- `listing::read_listing` meets its contract.
 -- Assumes nothing.
 use borrow.Author.Needs.{needs}
-use mathlib.Core.Path.{refl, sym, _∙_}
-use native.Mathlib.Omega.{arith}
+use mathlib.Core.Path.{refl}
 use denote.Ref.{now}
 use Rattle.listing.proofs.Whole.{lent-outer, lent-inner, image-first, oversized, outer-refused, inner-refused, line-too-many, all-read}
 use Rattle.listing.proofs.read_listing.Statement.{statement}

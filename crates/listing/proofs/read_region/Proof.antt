@@ -2,7 +2,6 @@
 -- Assumes nothing.
 use borrow.Author.Needs.{needs}
 use native.Mathlib.Omega.{arith}
-use denote.Ref.{now}
 use Rattle.listing.proofs.Rows.{region-line}
 use Rattle.listing.proofs.read_region.Statement.{statement}
 use Rattle.listing.proofs.read_region.Tie as tie

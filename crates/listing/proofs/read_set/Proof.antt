@@ -1,8 +1,6 @@
 -- `listing::read_set` meets its contract.
 -- Assumes nothing.
 use borrow.Author.Needs.{needs}
-use mathlib.Core.Path.{sym, _∙_}
-use native.Mathlib.Omega.{arith}
 use denote.Ref.{now}
 use Rattle.listing.proofs.Whole.{set-refused, set-shares, set-opened, set-read}
 use Rattle.listing.proofs.read_set.Statement.{statement}

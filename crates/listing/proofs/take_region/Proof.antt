@@ -1,8 +1,6 @@
 -- `listing::take_region` meets its contract.
 -- Assumes nothing.
 use borrow.Author.Needs.{needs}
-use mathlib.Core.Path.{sym, _∙_}
-use native.Mathlib.Omega.{arith}
 use denote.Ref.{now}
 use Rattle.words.proofs.Tests.{not-true, not-false}
 use Rattle.listing.proofs.Regions.{takes-form, takes-refused, takes-room, takes-done}

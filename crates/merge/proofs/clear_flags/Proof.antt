@@ -12,7 +12,7 @@ use Prim.Native.Nat.{_-_}
 use Rattle.merge.proofs.clear_flags.Statement.{statement}
 use Rattle.merge.proofs.clear_flags.Tie as tie
 use Rattle.merge.proofs.in_list.Reads as in-list-reads
-use Rattle.pagework.proofs.set_flag.Reads as set-flag-reads
+use Rattle.newpages.proofs.set_flag.Reads as set-flag-reads
 use Rattle.words.proofs.wide.Reads as wide-reads
 
 abbrev Inv-loop : tie.InvT-loop

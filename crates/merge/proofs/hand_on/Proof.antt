@@ -7,8 +7,8 @@ use Rattle.merge.proofs.Handing.{leaving-long, leaving-ends, handed-las
 use Rattle.merge.proofs.hand_on.Statement.{statement}
 use Rattle.merge.proofs.hand_on.Tie as tie
 use Rattle.merge.proofs.key_of.Reads as key-of-reads
-use Rattle.pagework.proofs.inner_without.Reads as inner-without-reads
-use Rattle.pagework.proofs.set_key.Reads as set-key-reads
+use Rattle.newpages.proofs.inner_without.Reads as inner-without-reads
+use Rattle.newpages.proofs.set_key.Reads as set-key-reads
 use Rattle.records.proofs.lift.Reads as lift-reads
 use Rattle.words.proofs.wide.Reads as wide-reads
 

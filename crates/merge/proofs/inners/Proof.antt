@@ -12,7 +12,7 @@ use Rattle.merge.proofs.inners.Tie as tie
 use Rattle.merge.proofs.hand_on.Reads as hand-on-reads
 use Rattle.merge.proofs.sink.Reads as sink-reads
 use Rattle.merge.proofs.store_merged.Reads as store-merged-reads
-use Rattle.pagework.proofs.inner_joined.Reads as inner-joined-reads
+use Rattle.newpages.proofs.inner_joined.Reads as inner-joined-reads
 use Rattle.store.proofs.load_page.Reads as load-page-reads
 
 long : (c : tie.After-inner-joined) → length (c .inner-joined .result) ≡ 57

@@ -12,7 +12,7 @@ use Rattle.merge.proofs.leaves.Tie as tie
 use Rattle.merge.proofs.clear_flags.Reads as clear-flags-reads
 use Rattle.merge.proofs.hand_on.Reads as hand-on-reads
 use Rattle.merge.proofs.store_merged.Reads as store-merged-reads
-use Rattle.pagework.proofs.leaf_joined.Reads as leaf-joined-reads
+use Rattle.newpages.proofs.leaf_joined.Reads as leaf-joined-reads
 use Rattle.records.proofs.drop_list.Reads as drop-list-reads
 use Rattle.store.proofs.load_page.Reads as load-page-reads
 

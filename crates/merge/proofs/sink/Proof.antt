@@ -9,7 +9,7 @@ use Rattle.merge.proofs.Sinking.{SinkInv, sink-start, sink-ends, sink-t
 use Rattle.merge.proofs.sink.Statement.{statement}
 use Rattle.merge.proofs.sink.Tie as tie
 use Rattle.merge.proofs.key_of.Reads as key-of-reads
-use Rattle.pagework.proofs.set_key.Reads as set-key-reads
+use Rattle.newpages.proofs.set_key.Reads as set-key-reads
 use Rattle.records.proofs.lift.Reads as lift-reads
 use Rattle.words.proofs.wide.Reads as wide-reads
 

@@ -1,10 +1,7 @@
 -- `refuse::is_full` meets its contract.
 -- Assumes nothing.
 use borrow.Author.Needs.{needs}
-use mathlib.Core.Path.{_≡_, sym, ap, ap₂, _∙_}
 use denote.Ref.{now}
-use lib.Dec.{leb}
-use lib.ListN.{getD}
 use Rattle.refuse.proofs.Numbers.{full-is}
 use Rattle.refuse.proofs.is_full.Statement.{statement}
 use Rattle.refuse.proofs.is_full.Tie as tie

@@ -5,8 +5,8 @@ use mathlib.Core.Path.{ap, _∙_}
 use Rattle.words.specs.Lists.{some}
 use Rattle.refuse.proofs.is_held.Statement.{statement}
 use Rattle.refuse.proofs.is_held.Tie as tie
-use Rattle.touch.proofs.is_found.Reads as is-found-reads
-use Rattle.touch.proofs.region_at.Reads as region-at-reads
+use Rattle.clashes.proofs.is_found.Reads as is-found-reads
+use Rattle.clashes.proofs.region_at.Reads as region-at-reads
 
 region-at-requires : tie.Need-region-at-requires
 region-at-requires c κs = search needs

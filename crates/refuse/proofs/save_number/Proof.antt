@@ -12,7 +12,7 @@ use Rattle.refuse.proofs.is_full.Reads as is-full-reads
 use Rattle.refuse.proofs.is_held.Reads as is-held-reads
 use Rattle.regions.proofs.foreign.Reads as foreign-reads
 use Rattle.regions.proofs.well_formed.Reads as well-formed-reads
-use Rattle.touch.proofs.crosses_held.Reads as crosses-held-reads
+use Rattle.clashes.proofs.crosses_held.Reads as crosses-held-reads
 
 well-formed-requires : tie.Need-well-formed-requires
 well-formed-requires c κs = search needs

@@ -1,7 +1,7 @@
 -- `shape::pass_tree` meets its contract: the page's test, then a leaf's entries or children and keys in turn; what is still to come, from where
 -- the pass stands, comes to the same on every turn. The recursion falls with the level.
 -- Assumes nothing.
-use Prim.Native.Nat.{ℕ, _<_, _≤_, _+_, _-_}
+use Prim.Native.Nat.{ℕ, _<_, _≤_, _-_}
 use borrow.Author.Needs.{needs}
 use borrow.Author.Tests.{not-true, not-false}
 use borrow.Fn.Kinds.{In}

@@ -1,7 +1,7 @@
 -- `split::raise` meets its contract: the keys from j on are done.
 -- Assumes nothing.
 use borrow.Author.Needs.{needs}
-use Prim.Native.Nat.{ℕ, _-_, _≤_}
+use Prim.Native.Nat.{ℕ, _≤_}
 use mathlib.Core.Path.{refl, _∙_}
 use native.Mathlib.Omega.{arith}
 use Rattle.split.specs.Moves.{RaiseReady}

@@ -1,6 +1,6 @@
 -- `stablists::lists` meets its contract. The loop's invariant: what is left of the keys and children, gone through from here, comes to the whole. The measure is the depth.
 -- Assumes nothing.
-use Prim.Native.Nat.{ℕ, _<_, _≤_, _+_, _-_}
+use Prim.Native.Nat.{ℕ, _<_, _≤_, _-_}
 use denote.Ref.{now}
 use mathlib.Core.Path.{_≡_, refl, _∙_}
 use borrow.Author.Needs.{needs}

@@ -1,0 +1,81 @@
+-- `newpages::inner_right` meets its contract: the calls leave the words that the law speaks of.
+-- Assumes nothing.
+use borrow.Author.Needs.{needs}
+use native.Mathlib.Omega.{arith}
+use Prim.Native.Nat.{_+_, _-_}
+use Rattle.newpages.proofs.Inners.{inner-right-is}
+use Rattle.newpages.proofs.inner_right.Statement.{statement}
+use Rattle.newpages.proofs.inner_right.Tie as tie
+
+array-read-wide : tie.Need-array-read-wide
+array-read-wide c = search needs
+
+wide-requires : tie.Need-wide-requires
+wide-requires c κs = search needs
+
+add-m : tie.Need-add-m
+add-m c = search needs
+
+sub-m : tie.Need-sub-m
+sub-m c = search needs
+
+add-copied : tie.Need-add-copied
+add-copied c = search needs
+
+mul-copied : tie.Need-mul-copied
+mul-copied c = search needs
+
+add-copied-2 : tie.Need-add-copied-2
+add-copied-2 c = search needs
+
+mul-copied-2 : tie.Need-mul-copied-2
+mul-copied-2 c = search needs
+
+copied-requires : tie.Need-copied-requires
+copied-requires c κs = search needs
+
+add-copied-3 : tie.Need-add-copied-3
+add-copied-3 c = search needs
+
+add-copied-4 : tie.Need-add-copied-4
+add-copied-4 c = search needs
+
+copied-requires-2 : tie.Need-copied-requires-2
+copied-requires-2 c κs = search needs
+
+cast-headed : tie.Need-cast-headed
+cast-headed c = search needs
+
+array-read-headed : tie.Need-array-read-headed
+array-read-headed c = search needs
+
+headed-requires : tie.Need-headed-requires
+headed-requires c κs = search needs
+
+returns : tie.Need-returns
+returns c =
+    let s = c .before .before .before .before in
+    let w = c .before .before .before .wide in
+    rw (c .headed .ensures, c .before .copied2 .ensures, c .before .before .copied .ensures)
+    (inner-right-is (s .args .t1) (search needs) (s .args .c) (w .result - (s .args .c + 1)) (omega (arith, w .ensures)) (s .pre .0) (s .pre .1))
+
+pub inner-right-spec : {M : Type 1} → statement M
+inner-right-spec =
+    tie.close
+    (tie.spec
+    array-read-wide
+    wide-requires
+    add-m
+    sub-m
+    add-copied
+    mul-copied
+    add-copied-2
+    mul-copied-2
+    copied-requires
+    add-copied-3
+    add-copied-4
+    copied-requires-2
+    cast-headed
+    array-read-headed
+    headed-requires
+    returns)

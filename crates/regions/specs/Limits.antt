@@ -1,0 +1,51 @@
+-- Document 01: the numbers of the house, each by its name. (Refusals have theirs in Numbers, the words of an image in crate pages.)
+-- Assumes nothing.
+use Prim.Native.Nat.{ℕ}
+
+-- accounts, from 0 to the last
+abbrev pub accountCount : ℕ
+accountCount = 16
+
+abbrev pub lastAccount : ℕ
+lastAccount = 15
+
+-- the positions of a document, and of an account
+abbrev pub documentPositions : ℕ
+documentPositions = 65536
+
+abbrev pub accountPositions : ℕ
+accountPositions = 268435456
+
+abbrev pub lastLevel : ℕ
+lastLevel = 255
+
+-- the regions of a set, at most: also what its shares may come to together
+abbrev pub mostRegions : ℕ
+mostRegions = 500
+
+-- seats, from 0 to the last
+abbrev pub seatCount : ℕ
+seatCount = 8
+
+abbrev pub lastSeat : ℕ
+lastSeat = 7
+
+-- what a seat gets that asks for limit 0; and the most pairs that any seat may ask for in a round
+abbrev pub houseLimit : ℕ
+houseLimit = 32
+
+abbrev pub mostARound : ℕ
+mostARound = 32
+
+-- a region and a pair in words; a seat's words of the round buffer, and all of its words
+abbrev pub regionWidth : ℕ
+regionWidth = 4
+
+abbrev pub pairWidth : ℕ
+pairWidth = 4
+
+abbrev pub seatWidth : ℕ
+seatWidth = 128
+
+abbrev pub bufferWords : ℕ
+bufferWords = 1024
