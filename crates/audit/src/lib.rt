@@ -1,10 +1,6 @@
 // Decides whether an image is valid, exactly and of any words: its shape, then its regions, then its lists; each part leans on the ones before.
 ghost use mathlib.Core.Path.{_≡_};
-ghost use mathlib.Core.Bool.{true, false};
-ghost use Prim.Native.Nat.{ℕ, _<_};
-ghost use lib.ListN.{getD};
-ghost use Rattle.regions.specs.Sets.{heldBy};
-ghost use Rattle.image.specs.Read.{setOf};
+ghost use mathlib.Core.Bool.{false};
 ghost use Rattle.image.specs.Valid.{valid};
 ghost use Rattle.audit.specs.Report.{Reports};
 
@@ -38,4 +34,12 @@ pub fn audit(img: &[u32]) -> Report
         return refused();
     }
     Report { ok: true, held }
+}
+
+// Whether the image is valid. Every call but an opening asks this first.
+pub fn is_valid(img: &[u32]) -> bool
+    ensures { λ r. ⌜ r ≡ valid (now (img .entry)) ⌝ }
+{
+    let report = audit(img);
+    report.ok
 }

@@ -8,21 +8,27 @@ use lib.ListN.{length, take, drop, replicate}
 use borrow.Author.Tests.{eq-eqb, ne-eqb}
 use Rattle.words.specs.Lists.{firstNo}
 use Rattle.regions.specs.Numbers.{unless, DESK}
+use Rattle.regions.specs.Flat.{kindOf}
 use Rattle.regions.specs.Desk.{closed, seatWord, openDeskNo, part, partNo}
 use Rattle.regions.specs.declared.Kind.{Kind}
 use Rattle.regions.specs.declared.Seat.{Seat}
 use Rattle.desk.specs.Promises.{OpensDesk, OpensSeat, ClosesSeat, Rounds, PartNumber}
-use Rattle.capi.specs.Border.{kindOf}
-use Rattle.capi.specs.Seats.{seatOf, flatSeat, Left, OpensFlatDesk, OpensFlatSeat, ClosesFlatSeat, RoundsFlat, PartsFlat}
-use Rattle.capi.specs.declared.FlatSeat.{FlatSeat}
+use Rattle.flat.specs.Seats.{seatOf, flatSeat}
+use Rattle.flat.specs.declared.FlatSeat.{FlatSeat}
+use Rattle.capi.specs.Seats.{Left, OpensFlatDesk, OpensFlatSeat, ClosesFlatSeat, RoundsFlat, PartsFlat}
 
 eight-open : (ds : List Seat) → length ds ≡ 8 → openDeskNo ds ≡ 0
 unfolding openDeskNo firstNo
 eight-open ds n = ap (λ (t : Bool). cond (not t) DESK 0) (eq-eqb (length ds) 8 n)
 
 -- a desk of eight closed seats is what opening leaves of any eight
-pub opens-desk : (number : ℕ) (seats : List Seat) (fs′ : List FlatSeat) → OpensDesk (replicate 8 closed) number seats → fs′ ≡ map flatSeat seats → OpensFlatDesk fs′
-opens-desk number seats fs′ opens left =
+pub opens-desk : (s : Seat) (number : ℕ) (seats : List Seat) (fs′ : List FlatSeat)
+    → s ≡ closed
+    → OpensDesk (replicate 8 s) number seats
+    → fs′ ≡ map flatSeat seats
+    → OpensFlatDesk fs′
+opens-desk s number seats fs′ is-closed opened left =
+    let opens = subst (λ (x : Seat). OpensDesk (replicate 8 x) number seats) is-closed opened in
     let is-done : number ≡ 0 = opens .number-is ∙ eight-open (replicate 8 closed) refl in
     let shut : seats ≡ replicate 8 closed = opens .desk-is ∙ ap (λ (n : ℕ). unless n (replicate 8 closed) (replicate 8 closed)) is-done in
     record { seats = seats; opens = λ ds n. record { number-is = sym (eight-open ds n); desk-is = shut }; left = left }

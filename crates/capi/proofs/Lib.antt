@@ -1,5 +1,4 @@
 -- What the proofs of the exports use; that each answer is the only one.
 mod Told
-mod Flat
 mod Calls
 mod Once

@@ -7,17 +7,20 @@ use mathlib.Core.List.{List, map}
 use lib.ListN.{take, drop, replicate}
 use denote.Ref.{RefT, ptr, now}
 use Rattle.words.specs.Lists.{some}
+use Rattle.regions.specs.Flat.{kindOf}
 use Rattle.regions.specs.Numbers.{unless}
 use Rattle.regions.specs.Desk.{closed, seatWord}
 use Rattle.regions.specs.declared.Region.{Region}
 use Rattle.regions.specs.declared.Seat.{Seat}
-use Rattle.index.specs.Searches.{parentNumber, parentFound}
-use Rattle.index.proofs.Once.{parent-once}
-use Rattle.desk.specs.Promises.{wordAt, LendsPart}
+use Rattle.parts.specs.Lent.{wordAt}
+use Rattle.queries.specs.Searches.{parentNumber, parentFound}
+use Rattle.queries.proofs.Once.{parent-once}
+use Rattle.desk.specs.Promises.{LendsPart}
 use Rattle.desk.proofs.Once.{opens-desk-once, opens-seat-once, closes-seat-once, rounds-once}
-use Rattle.capi.specs.Border.{kindOf, told, TellsParent}
-use Rattle.capi.specs.Seats.{seatOf, flatSeat, Left, OpensFlatDesk, OpensFlatSeat, ClosesFlatSeat, RoundsFlat, PartsFlat}
-use Rattle.capi.specs.declared.FlatSeat.{FlatSeat}
+use Rattle.flat.specs.Seats.{seatOf, flatSeat}
+use Rattle.flat.specs.declared.FlatSeat.{FlatSeat}
+use Rattle.capi.specs.Border.{told, TellsParent}
+use Rattle.capi.specs.Seats.{Left, OpensFlatDesk, OpensFlatSeat, ClosesFlatSeat, RoundsFlat, PartsFlat}
 
 pub tells-once : (w : List ℕ) (a p l : ℕ) (m n : ℕ) (f g : Bool) (r s : Region) → TellsParent w a p l m f r → TellsParent w a p l n g s → (m ≡ n) × (f ≡ g) × (r ≡ s)
 tells-once w a p l m n f g r s x y =

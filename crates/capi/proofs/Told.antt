@@ -5,9 +5,9 @@ use mathlib.Core.Path.{_≡_, refl, subst}
 use mathlib.Core.List.{List}
 use Rattle.words.specs.Lists.{some}
 use Rattle.regions.specs.declared.Kind.{Kind}
-use Rattle.index.specs.Joins.{JoinsSets}
-use Rattle.index.specs.Searches.{FindsParent, parentNumber, parentFound}
-use Rattle.index.specs.declared.Parent.{Parent}
+use Rattle.queries.specs.Joins.{JoinsSets}
+use Rattle.queries.specs.Searches.{FindsParent, parentNumber, parentFound}
+use Rattle.queries.specs.declared.Parent.{Parent}
 use Rattle.capi.specs.Border.{told, TellsParent}
 
 -- what is told of an answer that is known

@@ -1,23 +1,16 @@
--- What goes over the border in another form than the calls have it: a region as four numbers, a kind as a number, and the parent search's answer.
+-- What goes over the border in another form than the calls have it: a region as four numbers, and the parent search's answer.
 -- Assumes nothing.
 use Prim.Native.Nat.{ℕ}
 use mathlib.Core.Path.{_≡_}
-use mathlib.Core.Bool.{Bool, cond}
+use mathlib.Core.Bool.{Bool}
 use mathlib.Core.List.{List, [], _∷_}
-use lib.Dec.{eqb}
 use Rattle.words.specs.Lists.{some}
 use Rattle.regions.specs.declared.Region.{Region}
-use Rattle.regions.specs.declared.Kind.{Kind}
-use Rattle.regions.specs.declared.Kind.the-variants.{Ancestor, Parent as ByParent}
-use Rattle.index.specs.Searches.{FindsParent, parentNumber, parentFound}
-use Rattle.index.specs.declared.Parent.{Parent}
+use Rattle.queries.specs.Searches.{FindsParent, parentNumber, parentFound}
+use Rattle.queries.specs.declared.Parent.{Parent}
 
 abbrev pub region : ℕ → ℕ → ℕ → ℕ → Region
 region start end level reference = record { start = start; end = end; level = level; reference = reference }
-
--- 0 is by ancestor, all else by parent
-unfoldable pub kindOf : ℕ → Kind
-kindOf k = cond (eqb k 0) Ancestor ByParent
 
 -- the region that is told of none or one: four zeros for none
 unfoldable pub told : List Region → Region

@@ -1,53 +1,16 @@
--- The desk over the border: a seat as seven numbers, what they mean and how a seat is told in them, and the desk's promises in these terms.
+-- The desk over the border: its promises in terms of seats told in numbers.
 -- Assumes nothing.
 use Prim.Native.Nat.{ℕ, _*_}
 use mathlib.Core.Path.{_≡_}
-use mathlib.Core.Bool.{cond}
 use mathlib.Core.List.{List, map}
-use lib.Dec.{eqb}
 use lib.ListN.{length, take, drop}
 use Rattle.regions.specs.Numbers.{unless}
-use Rattle.regions.specs.Desk.{closed, openAt, seatWord}
-use Rattle.regions.specs.declared.Kind.{Kind}
-use Rattle.regions.specs.declared.Kind.the-variants.{Ancestor, Parent}
-use Rattle.regions.specs.declared.Mark.{Mark}
-use Rattle.regions.specs.declared.Mark.the-variants.{Fresh, Last}
-use Rattle.regions.specs.declared.Open.{Open}
-use Rattle.regions.specs.declared.State.{State}
-use Rattle.regions.specs.declared.State.the-variants.{Closed, Open as Opened}
+use Rattle.regions.specs.Desk.{seatWord}
+use Rattle.regions.specs.Flat.{kindOf}
 use Rattle.regions.specs.declared.Seat.{Seat}
 use Rattle.desk.specs.Promises.{OpensDesk, OpensSeat, ClosesSeat, Rounds, Parts, PartNumber}
-use Rattle.capi.specs.Border.{kindOf}
-use Rattle.capi.specs.declared.FlatSeat.{FlatSeat}
-
--- WHAT SEVEN NUMBERS MEAN
-unfoldable pub markOf : ℕ → ℕ → ℕ → Mark
-markOf marked a d = cond (eqb marked 0) Fresh (Last a d)
-
-abbrev pub openOf : FlatSeat → Open
-openOf f = record { account = f .account; kind = kindOf (f .kind); limit = f .limit; mark = markOf (f .marked) (f .a) (f .d) }
-
-unfoldable pub seatOf : FlatSeat → Seat
-seatOf f = cond (eqb (f .opened) 0) closed (openAt (openOf f))
-
--- A SEAT IN NUMBERS
-unfoldable pub kindNumber : Kind → ℕ
-kindNumber Ancestor = 0
-kindNumber Parent = 1
-
-unfoldable pub flatMarked : ℕ → ℕ → ℕ → Mark → FlatSeat
-flatMarked account kind limit Fresh = record { opened = 1; account = account; kind = kind; limit = limit; marked = 0; a = 0; d = 0 }
-flatMarked account kind limit (Last a d) = record { opened = 1; account = account; kind = kind; limit = limit; marked = 1; a = a; d = d }
-
-unfoldable pub flatOpen : Open → FlatSeat
-flatOpen o = flatMarked (o .account) (kindNumber (o .kind)) (o .limit) (o .mark)
-
-unfoldable pub flatState : State → FlatSeat
-flatState Closed = record { opened = 0; account = 0; kind = 0; limit = 0; marked = 0; a = 0; d = 0 }
-flatState (Opened o) = flatOpen o
-
-abbrev pub flatSeat : Seat → FlatSeat
-flatSeat s = flatState (s .state)
+use Rattle.flat.specs.declared.FlatSeat.{FlatSeat}
+use Rattle.flat.specs.Seats.{seatOf, flatSeat}
 
 -- THE PROMISES. The seats meant are changed as the desk's own promise says, and told in numbers; a refusal leaves all numbers as they were
 abbrev pub Left : ℕ → List FlatSeat → List Seat → List FlatSeat → Type 0

@@ -17,8 +17,9 @@ use Rattle.regions.specs.Positions.{document, account, wellBound, wellFormed, e
 use Rattle.regions.specs.Sets.{Set, of, heldBy, shareOf}
 use Rattle.regions.specs.declared.Region.{Region}
 use Rattle.xrtree.specs.Rules.{sharesKept, rule6}
-use Rattle.census.specs.Pass.{pop, under, Passed, refused, going, leftFor, takeOne, enter, pass}
-use Rattle.census.proofs.Shares.{some-at}
+use Rattle.nesting.specs.Pass.{pop, under, Passed, refused, going, leftFor, takeOne, enter}
+use Rattle.nesting.proofs.Shares.{some-at}
+use Rattle.census.specs.Pass.{pass}
 
 -- x starts first
 abbrev pub First : Region → Region → Type 0

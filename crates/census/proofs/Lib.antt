@@ -1,5 +1,4 @@
 pub mod Shares
-pub mod Stack
 pub mod Walk
 pub mod Decides
 pub mod Shaped

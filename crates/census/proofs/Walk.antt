@@ -10,7 +10,8 @@ use Rattle.pages.specs.Layout.{pageOf, fillOf, regionIn, entryWord, childIn}
 use Rattle.image.specs.Read.{entriesFrom}
 use Rattle.image.specs.Fills.{FillsFrom}
 use Rattle.image.proofs.Listings.{listedAt, listedFrom, from-last, from-more, listed-leaf, listed-inner}
-use Rattle.census.specs.Pass.{Passed, enter, pass, regionsAt, Fills}
+use Rattle.nesting.specs.Pass.{Passed, enter}
+use Rattle.census.specs.Pass.{pass, regionsAt, Fills}
 
 pub pass-append : (xs ys : List Region) (s : Passed) → pass (xs ++ ys) s ≡ pass ys (pass xs s)
 unfolding pass

@@ -10,12 +10,13 @@ use native.Mathlib.Omega.{arith}
 use Rattle.words.specs.Lists.{sum}
 use Rattle.words.proofs.Tests.{le-of}
 use Rattle.regions.specs.Sets.{heldBy}
-use Rattle.xrtree.specs.Rules.{rule6}
 use Rattle.pages.specs.Layout.{sharesOf}
+use Rattle.xrtree.specs.Rules.{rule6}
 use Rattle.image.specs.Read.{setOf}
 use Rattle.image.specs.Shape.{shapely}
-use Rattle.census.specs.Pass.{Passed, going, refused, pass, stackOf, passed, regionsAt, Fills}
-use Rattle.census.specs.declared.Way.{Way}
+use Rattle.nesting.specs.Pass.{stackOf, Passed, going, refused, passed}
+use Rattle.nesting.specs.declared.Way.{Way}
+use Rattle.census.specs.Pass.{pass, regionsAt, Fills}
 use Rattle.census.specs.declared.Census.{Census}
 use Rattle.census.proofs.Shares.{share-at}
 use Rattle.census.proofs.Decides.{pass-decides, rule-over, held-is}

@@ -3,17 +3,17 @@
 ghost use mathlib.Core.Path.{_≡_};
 ghost use mathlib.Core.Bool.{true, false};
 ghost use Prim.Native.Nat.{ℕ, _+_, _-_, _<_, _≤_};
-ghost use lib.Dec.{T, leb};
+ghost use lib.Dec.{T};
 ghost use lib.ListN.{length, getD};
-ghost use Rattle.words.specs.Lists.{sum};
-ghost use Rattle.regions.specs.Limits.{mostRegions};
 ghost use Rattle.regions.specs.Sets.{heldBy};
 ghost use Rattle.xrtree.specs.Rules.{rule6};
 ghost use Rattle.pages.specs.Layout.{sharesOf};
 ghost use Rattle.image.specs.Read.{setOf};
 ghost use Rattle.image.specs.Shape.{shapely};
-ghost use Rattle.census.specs.Pass.{pop, enter, pass, stackOf, passed, shut, regionsAt, Fills, Fitting};
-use regions::Region;
+ghost use Rattle.nesting.specs.Pass.{passed, Fitting};
+ghost use Rattle.census.specs.Pass.{pass, regionsAt, Fills};
+use nesting::Way;
+use regions::Shares;
 
 // Regions that are open at once, at most.
 const MOST_OPEN: usize = 500;
@@ -24,90 +24,18 @@ pub struct Census {
     pub held: [u32; regions::ACCOUNT_COUNT],
 }
 
-// How far the pass has come: whether all went well, and how many regions are open.
-pub struct Way {
-    pub ok: bool,
-    pub top: usize,
-}
-
-// Whether the shares are at most 500 together, by what is left of 500 at each: so no sum can wrap.
-fn shares_fit(img: &[u32]) -> bool
+// The shares, by value: for the pass to count down.
+fn shares_of(img: &[u32]) -> Shares
     requires { ⌜ 18 ≤ length (now img) ⌝ }
-    ensures { λ r. ⌜ r ≡ leb (sum (sharesOf (now (img .entry)))) mostRegions ⌝ }
+    ensures { λ r. ⌜ r ≡ sharesOf (now (img .entry)) ⌝ }
 {
-    let mut total: u32 = 0;
+    let mut shares = [0u32; regions::ACCOUNT_COUNT];
     let mut i = 0;
-    while i < 16 {
-        let share = words::word(img, 2 + i);
-        if share > regions::MOST_REGIONS - total {
-            return false;
-        }
-        total += share;
+    while i < regions::ACCOUNT_COUNT {
+        shares[i] = words::word(img, 2 + i);
         i += 1;
     }
-    true
-}
-
-// The shares, for the pass to count down.
-fn copy_shares(img: &[u32], left: &mut [u32])
-    requires { ⌜ (18 ≤ length (now img)) × (length (now left) ≡ 16) ⌝ }
-    ensures { λ r. ⌜ now (left .exit) ≡ sharesOf (now (img .entry)) ⌝ }
-{
-    let mut i = 0;
-    while i < 16 {
-        left[i] = words::word(img, 2 + i);
-        i += 1;
-    }
-}
-
-// How many regions stay open once those that end before s are closed.
-fn popped(stack: &[u32], top: usize, s: u32) -> usize
-    ensures { λ r. ⌜ (r ≤ top) × (stackOf (now (stack .entry)) r ≡ pop s (stackOf (now (stack .entry)) top)) ⌝ }
-{
-    let mut t = top;
-    while 0 < t {
-        if s <= words::word(stack, t - 1) {
-            return t;
-        }
-        t -= 1;
-    }
-    t
-}
-
-// A pass that was refused: it says so to the end, whatever comes.
-fn closed() -> Way
-    ensures { λ r. ⌜ r ≡ shut ⌝ }
-{
-    Way { ok: false, top: 0 }
-}
-
-// The region that comes next. Each one that is open took one of its account's share, so the stack has room for a region that finds some of its share left.
-fn enter_one(r: Region, stack: &mut [u32], left: &mut [u32], o: Way) -> Way
-    requires { ⌜ Fitting o (now stack) (now left) ⌝ }
-    ensures { λ t. ⌜ (passed t (now (stack .exit)) (now (left .exit)) ≡ enter r (passed o (now (stack .entry)) (now (left .entry)))) × Fitting t (now (stack .exit)) (now (left .exit)) ⌝ }
-{
-    if !o.ok {
-        return closed();
-    }
-    if !regions::well_formed(r) {
-        return closed();
-    }
-    let account = words::wide(regions::account_of(r.start));
-    let share = words::word(left, account);
-    if share == 0 {
-        return closed();
-    }
-    let end = r.end;
-    let t = popped(stack, o.top, r.start);
-    if 0 < t {
-        if words::word(stack, t - 1) <= end {
-            return closed();
-        }
-    }
-    stack[t] = end;
-    left[account] = share - 1;
-    let top = t + 1;
-    Way { ok: true, top: top }
+    shares
 }
 
 // The regions of a leaf.
@@ -120,7 +48,7 @@ fn leaf_regions(img: &[u32], p: u32, stack: &mut [u32], left: &mut [u32], o: Way
     let mut t = o;
     let mut i = 0;
     while i < n {
-        t = enter_one(pages::entry_region(img, p, i), stack, left, t);
+        t = nesting::enter_one(pages::entry_region(img, p, i), stack, left, t);
         i += 1;
     }
     t
@@ -175,11 +103,10 @@ pub fn take_census(img: &[u32]) -> Census
     requires { ⌜ T (shapely (now img)) ⌝ }
     ensures { λ r. ⌜ (r .ok ≡ rule6 (setOf (now (img .entry)))) × (r .ok ≡ true → (a : ℕ) → a < 16 → getD (r .held) a 0 ≡ heldBy a (setOf (now (img .entry)))) ⌝ }
 {
-    if !shares_fit(img) {
+    let mut left = shares_of(img);
+    if !regions::shares_fit(left) {
         return wrong();
     }
-    let mut left = [0u32; 16];
-    copy_shares(img, &mut left);
     let mut stack = [0u32; MOST_OPEN];
     let start = Way { ok: true, top: 0 };
     let end = tree_regions(

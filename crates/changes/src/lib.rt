@@ -1,9 +1,9 @@
 // Save and delete on an image that is known to be valid: refused by the call's own tests, and then no word changes, or done.
 ghost use mathlib.Core.Path.{_≡_};
-ghost use Prim.Native.Nat.{_<_};
+ghost use Prim.Native.Nat.{_<_, suc};
 ghost use lib.Dec.{T};
-ghost use lib.ListN.{getD};
-ghost use Rattle.regions.specs.Limits.{accountCount};
+ghost use lib.ListN.{getD, set};
+ghost use Rattle.regions.specs.Limits.{accountCount, mostRegions};
 ghost use Rattle.regions.specs.Sets.{heldBy};
 ghost use Rattle.image.specs.Read.{setOf};
 ghost use Rattle.image.specs.Valid.{valid};
@@ -35,4 +35,15 @@ pub fn delete(img: &mut [u32], account: u32, start: u32) -> u32
     }
     remove::remove(img, start);
     0
+}
+
+// The counts of held regions behind a save in an account.
+pub fn counted(held: [u32; regions::ACCOUNT_COUNT], account: u32) -> [u32; regions::ACCOUNT_COUNT]
+    requires { ⌜ (account < accountCount) × (getD held account 0 < mostRegions) ⌝ }
+    ensures { λ r. ⌜ r ≡ set held account (suc (getD held account 0)) ⌝ }
+{
+    let mut counts = held;
+    let a = words::wide(account);
+    counts[a] = counts[a] + 1;
+    counts
 }

@@ -10,13 +10,12 @@ use native.Mathlib.Omega.{arith}
 use native.Mathlib.Decide.{decLe}
 use Rattle.words.specs.Lists.{filter, lastOr, All}
 use Rattle.words.proofs.Tests.{no-T, by-test, nle-of, le-no, nlt-of, lt-no, or-false-left, or-false-right}
-use Rattle.words.proofs.Listed.{all-mono, all-two, all-append, all-filter, pairs-filter, filter-none, none-of, pairs-across, some-none, none-some}
-use Rattle.words.proofs.Says.{Says, and-says, lt-says, le-says}
+use Rattle.words.proofs.Listed.{all-mono, all-two, all-append, all-filter, pairs-filter, filter-none, none-of, pairs-across, some-none, none-some, all-end, last-split, pairs-two}
+use Rattle.words.proofs.Says.{Says, and-says, lt-says, le-says, true-so, so-true, false-so, so-false}
 use Rattle.regions.specs.declared.Region.{Region}
 use Rattle.regions.specs.Positions.{crosses, nested, contains}
 use Rattle.regions.specs.Sets.{Set, isAt, heldAt, crossed}
 use Rattle.regions.specs.Calls.{innermost}
-use Rattle.regions.proofs.Extra.{true-so, so-true, false-so, so-false, all-end, last-split, pairs-two}
 use Rattle.regions.proofs.Means.{contains-says, at-says, crosses-says, nested-in-turn}
 use Rattle.regions.specs.Sound.{Rising, Nesting}
 use Rattle.regions.proofs.Chain.{Inward}

@@ -9,20 +9,19 @@ use native.Mathlib.Omega.{arith}
 use native.Mathlib.Decide.{decLt}
 use Rattle.words.specs.Lists.{filter, some, lastOr, All}
 use Rattle.words.proofs.Tests.{by-test}
-use Rattle.words.proofs.Listed.{all-mono, all-every, filter-none}
-use Rattle.words.proofs.Says.{says-same, says-iff}
+use Rattle.words.proofs.Listed.{all-mono, all-every, filter-none, last-append}
+use Rattle.words.proofs.Says.{says-same, says-iff, true-so, so-true, false-so, so-false}
 use Rattle.regions.specs.declared.Region.{Region}
 use Rattle.regions.specs.Positions.{holds}
 use Rattle.regions.specs.Sets.{Set, isAt, heldAt, crossed}
 use Rattle.regions.specs.Calls.{ancestors, innermost}
-use Rattle.regions.proofs.Extra.{true-so, so-true, false-so, so-false, last-append}
 use Rattle.regions.proofs.Means.{holds-says, at-says}
 use Rattle.regions.specs.Sound.{Rising}
 use Rattle.image.specs.Read.{setOf}
 use Rattle.image.specs.Valid.{valid}
-use Rattle.search.specs.declared.Found.{Found}
-use Rattle.search.specs.declared.Found.the-variants.{Nothing, At}
-use Rattle.search.specs.Tallies.{foundList, lastFound}
+use Rattle.tally.specs.declared.Found.{Found}
+use Rattle.tally.specs.declared.Found.the-variants.{Nothing, At}
+use Rattle.tally.specs.Tallies.{foundList, lastFound}
 use Rattle.clashes.specs.Reach.{reaches, reach, endsBy, startsPast}
 use Rattle.clashes.proofs.Crossing.{reaches-says, crossing-test}
 use Rattle.clashes.proofs.Starts.{ordered}

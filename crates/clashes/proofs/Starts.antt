@@ -9,10 +9,9 @@ use native.Mathlib.Omega.{arith}
 use Rattle.words.specs.Lists.{filter, All}
 use Rattle.words.proofs.Tests.{by-test}
 use Rattle.words.proofs.Listed.{all-mono, all-every, all-let, pairs-kept, filter-none, filter-within}
-use Rattle.words.proofs.Says.{all-says}
+use Rattle.words.proofs.Says.{all-says, true-so, so-true, so-false}
 use Rattle.regions.specs.declared.Region.{Region}
 use Rattle.regions.specs.Sets.{isAt, startsFrom}
-use Rattle.regions.proofs.Extra.{true-so, so-true, so-false}
 use Rattle.regions.proofs.Means.{Formed, formed-says, at-says, from-says}
 use Rattle.regions.specs.Sound.{Rising, Nesting}
 use Rattle.regions.proofs.Rising.{nesting-says}
@@ -27,8 +26,8 @@ use Rattle.leaves.specs.declared.Step.the-variants.{Next, End}
 use Rattle.leaves.specs.Cursors.{stepFrom}
 use Rattle.leaves.specs.Faces.{Faces}
 use Rattle.leaves.proofs.Faces.{faces-on, faces-end}
-use Rattle.search.specs.declared.Found.the-variants.{Nothing, At}
-use Rattle.search.specs.Tallies.{foundList}
+use Rattle.tally.specs.declared.Found.the-variants.{Nothing, At}
+use Rattle.tally.specs.Tallies.{foundList}
 
 -- WHAT A VALID IMAGE SAYS of the regions held
 pub record Ordered (rs : List Region) : Type 0 where

@@ -8,11 +8,11 @@ ghost use Rattle.regions.specs.Sets.{isAt, heldAt, crossed};
 ghost use Rattle.regions.specs.Calls.{ancestors, innermost};
 ghost use Rattle.image.specs.Read.{setOf};
 ghost use Rattle.image.specs.Valid.{valid};
-ghost use Rattle.search.specs.Tallies.{foundList};
+ghost use Rattle.tally.specs.Tallies.{foundList};
 ghost use Rattle.clashes.specs.Reach.{reach, endsBy, startsPast};
 use leaves::Step;
 use regions::Region;
-use search::Found;
+use tally::Found;
 
 // THE HELD REGION WITH THAT START, if there is one: starts ascend, so only the first entry that does not start before y can be it.
 pub fn region_at(img: &[u32], y: u32) -> Found

@@ -1,20 +1,16 @@
 // The console of the programs: words from standard input, and numbers and text on standard output.
-ghost use Prim.Native.Nat.{_<_, _≤_};
+ghost use Prim.Native.Nat.{_≤_};
 ghost use lib.ListN.{length};
 use libc::STDIN_FILENO;
 use libc::STDOUT_FILENO;
-
-fn byte(x: u8) -> u32
-    ensures { λ r. ⌜ r < 256 ⌝ }
-{
-    (x as u32) % 256
-}
 
 // The next word of the input, four bytes, low byte first; 0 where the input has ended.
 pub fn next_word() -> u32 {
     let mut four = [0u8; 4];
     io::read_full(STDIN_FILENO, &mut four);
-    byte(four[0]) + 256 * byte(four[1]) + 65536 * byte(four[2]) + 16777216 * byte(four[3])
+    let low = lines::byte_at(&four, 0) + 256 * lines::byte_at(&four, 1);
+    let high = lines::byte_at(&four, 2) + 256 * lines::byte_at(&four, 3);
+    (low + 65536 * high) as u32
 }
 
 // The next words of the input, as many as there is room for.
@@ -34,27 +30,6 @@ pub fn number(n: usize) {
     io::print_decimal(STDOUT_FILENO, n as u64);
 }
 
-// A space and a number.
-fn behind_space(n: u32) {
-    let mut bytes = [32u8; 11];
-    let end = lines::put_number(&mut bytes, 1, n);
-    text(&bytes[..end]);
-}
-
-// Numbers, each behind a space: for lines that may be long.
-pub fn spaced(numbers: &[u32]) {
-    let mut i: usize = 0;
-    while i < numbers.len() {
-        behind_space(numbers[i]);
-        i += 1;
-    }
-}
-
-// What stands behind a number from which on so many are left: a space, or the newline behind the last.
-fn behind(left: usize) -> u8 {
-    if 1 < left { 32 } else { 10 }
-}
-
 // Up to nine numbers on a line, which is put together and written by one call.
 pub fn line(numbers: &[u32])
     requires { ⌜ length (now numbers) ≤ 9 ⌝ }
@@ -65,9 +40,9 @@ pub fn line(numbers: &[u32])
     let mut i: usize = 0;
     while i < n {
         at = lines::put_number(&mut bytes, at, numbers[i]);
-        bytes[at] = behind(n - i);
-        at += 1;
         i += 1;
+        bytes[at] = lines::break_behind(n - i);
+        at += 1;
     }
     text(&bytes[..at]);
 }

@@ -11,7 +11,8 @@ use denote.Ref.{RefT, ptr, now}
 use borrow.Author.Tests.{eq-eqb, ne-eqb}
 use Rattle.regions.specs.Desk.{seatWord, part, partNo}
 use Rattle.regions.specs.declared.Seat.{Seat}
-use Rattle.desk.specs.Promises.{wordAt, LendsPart}
+use Rattle.parts.specs.Lent.{wordAt}
+use Rattle.desk.specs.Promises.{LendsPart}
 
 module _ (ds : List Seat) (b : RefT (List ℕ)) (i n : ℕ) (r : RefT (List ℕ)) (x : LendsPart ds b i n r) (done : partNo ds (now b) i n ≡ 0) where
   pub word-stands : (j : ℕ) → wordAt r j ≡ wordAt b (seatWord i + j)

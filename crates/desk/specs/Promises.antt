@@ -1,6 +1,6 @@
 -- Document 01, "Calls": the desk's calls, their promises. Each fixes the answer and every lent word afterwards, refusals included.
 -- Assumes nothing.
-use Prim.Native.Nat.{ℕ, _+_, _*_}
+use Prim.Native.Nat.{ℕ}
 use mathlib.Core.Path.{_≡_}
 use mathlib.Core.Bool.{_&&_}
 use mathlib.Core.List.{List, map}
@@ -12,6 +12,7 @@ use Rattle.regions.specs.declared.Kind.{Kind}
 use Rattle.regions.specs.declared.Seat.{Seat}
 use Rattle.image.specs.Read.{setOf}
 use Rattle.image.specs.Valid.{valid}
+use Rattle.parts.specs.Lent.{wordAt}
 
 -- all eight seats are closed, whatever stood there
 pub record OpensDesk (ds : List Seat) (number : ℕ) (ds′ : List Seat) : Type 0 where
@@ -37,10 +38,6 @@ pub record Rounds (outer inner : List ℕ) (ds : List Seat) (b : List ℕ) (numb
 -- a part's words; none where it is refused
 pub record Parts (ds : List Seat) (b : List ℕ) (i n : ℕ) (words : List ℕ) : Type 0 where
   pub words-are : words ≡ part ds b i n
-
--- where a lent slice's word w stands: in the slice's own block, 4 bytes a word behind the slice's place
-abbrev pub wordAt : RefT (List ℕ) → ℕ → ℕ × ℕ
-wordAt lent w = (ptr lent .0, ptr lent .1 + 4 * w)
 
 -- a part is the lent words themselves, not equal ones elsewhere: it stands in the buffer, at the seat's first word. Of a refused one, which is empty, no place is promised
 pub record LendsPart (ds : List Seat) (buffer : RefT (List ℕ)) (i n : ℕ) (r : RefT (List ℕ)) : Type 0 where

@@ -15,7 +15,7 @@ use Rattle.xrtree.specs.Tree.{Entry, Key, Leaf, Tree, weave, regionOf, listRegi
 use Rattle.xrtree.specs.Claims.{Over, Between, InKids, In}
 use Rattle.xrtree.proofs.Here.{starts-in, starts-weave}
 use Rattle.xrtree.specs.Holes.{loAfter, Post, fillKids, fillLast, hiPost}
-use Rattle.xrtree.proofs.Whole.{hole-page, beforeKids, afterKids}
+use Rattle.xrtree.proofs.Holes.{hole-page, beforeKids, afterKids}
 use Rattle.xrtree.specs.Holes.Post.{atKey, atEnd}
 use Rattle.entries.specs.Ways.{Below, within, Greater, On}
 use Rattle.entries.specs.Ways.Below.{here, down}

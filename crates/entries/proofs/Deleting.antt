@@ -8,21 +8,22 @@ use native.Mathlib.Omega.{arith}
 use Rattle.words.specs.Lists.{All, Pairs, takeWhile, dropWhile}
 use Rattle.words.proofs.Listed.{all-left, all-right, all-append, while-join}
 use Rattle.regions.specs.declared.Region.{Region}
+use Rattle.pages.specs.Layout.{rootOf, pageOf, fillOf, regionIn, entryWord}
 use Rattle.xrtree.specs.Tree.{Entry, Tree, regions}
 use Rattle.xrtree.specs.Claims.{Over, Fits}
 use Rattle.xrtree.specs.Moves.{out, own}
-use Rattle.pages.specs.Layout.{rootOf, pageOf, fillOf, regionIn, entryWord}
 use Rattle.image.specs.Read.{entriesFrom, depthOf}
+use Rattle.path.specs.Path.{pathFrom, padded}
+use Rattle.owners.specs.Owners.{ownerAlong}
+use Rattle.owners.specs.declared.Spot.{Spot}
 use Rattle.newpages.specs.Pages.{entriesOf}
 use Rattle.holding.specs.Held.{placeOf}
 use Rattle.standing.specs.Stands.{top}
-use Rattle.path.specs.Path.{pathFrom, padded}
-use Rattle.entries.specs.Whole.{Whole}
+use Rattle.roots.specs.WholeTree.{Whole}
 use Rattle.entries.specs.Ways.{leafOn, atLeaf, renew}
-use Rattle.entries.specs.Owners.{spotOf, ownerAlong, startsBefore, entriesBefore, outEntry}
+use Rattle.entries.specs.Owners.{spotOf, startsBefore, entriesBefore, outEntry}
 use Rattle.entries.specs.Lies.{Lies, Stepped, LeafReady, LeafStep, OwnerReady, ListStep}
 use Rattle.entries.specs.Changed.{OneLess, Shrunk, Leaving, Left}
-use Rattle.entries.specs.declared.Spot.{Spot}
 use Rattle.entries.proofs.Stepped.{stepped-then, lies-of, stands-of}
 use Rattle.entries.proofs.Cuts.{drop-while}
 use Rattle.entries.proofs.Halves.{ready-entries, ready-few}

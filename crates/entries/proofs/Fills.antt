@@ -29,4 +29,3 @@ module _ (R : Leaf → Leaf → Type 0) (x : ℕ) where
   along-long h t t′ a =
       ap (λ (u : Inner (Tree h)). length (u .kids)) (a .is) ∙ kids-long (a .pre) (a .pre′) (a .post) (a .post′) (a .child) (a .child′) (a .before) (a .after)
       ∙ sym (ap (λ (u : Inner (Tree h)). length (u .kids)) (a .was))
-  -- WHERE THE LEAF HOLDS WHAT IT MAY, the fills are right

@@ -10,9 +10,10 @@ use Rattle.words.proofs.Tests.{by-test, off-T, and-left, and-right, lt-of, nlt-
 use Rattle.xrtree.specs.Tree.{Key, Leaf, Tree}
 use Rattle.xrtree.specs.Claims.{Page, Claim, InKids, In, flagOf}
 use Rattle.xrtree.specs.Local.{NoKey, FlagsAre}
+use Rattle.owners.specs.Owners.{spotAt}
+use Rattle.owners.specs.declared.Spot.{Spot}
 use Rattle.entries.specs.Ways.{kidsAt, atLeaf}
-use Rattle.entries.specs.Owners.{spotAt, spotKids, spotOf}
-use Rattle.entries.specs.declared.Spot.{Spot}
+use Rattle.entries.specs.Owners.{spotKids, spotOf}
 
 -- THE OWNER does not mind the leaf
 module _ {A : Type 0} (f : A → A) (g : A → Spot) (s e q : ℕ) (same : (c : A) → g (f c) ≡ g c) where

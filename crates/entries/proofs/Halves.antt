@@ -13,27 +13,28 @@ use Rattle.words.specs.Lists.{count, takeWhile, dropWhile}
 use Rattle.words.proofs.Listed.{while-join}
 use Rattle.words.proofs.Counted.{count-append, count-same, count-other, one-at-most}
 use Rattle.regions.specs.declared.Region.{Region}
+use Rattle.pages.specs.Layout.{pageOf, markOf, fillOf, nextOf, keyWord, recordUsed}
+use Rattle.pages.specs.declared.KeyWords.{KeyWords}
 use Rattle.xrtree.specs.Tree.{Entry, Key, Leaf, recordPlaces}
 use Rattle.xrtree.specs.Claims.{pageAt}
 use Rattle.xrtree.specs.Moves.{keyWith, put, out, own}
-use Rattle.pages.specs.Layout.{pageOf, markOf, fillOf, nextOf, keyWord, recordUsed}
-use Rattle.pages.specs.declared.KeyWords.{KeyWords}
 use Rattle.image.specs.Read.{entriesFrom}
 use Rattle.image.specs.Decode.{keyWordsAt}
 use Rattle.image.proofs.Listings.{entries-long}
-use Rattle.newpages.specs.Pages.{putIn, takenOut, putFor, newEntry, entriesOf, sparesOf, keysOf, childrenOf, IsLeaf, IsInner}
-use Rattle.holding.specs.Held.{KeyHeld}
-use Rattle.standing.specs.Stands.{Roomy}
-use Rattle.standing.proofs.Counting.{all-counted}
+use Rattle.owners.specs.Owners.{nobody}
+use Rattle.owners.specs.declared.Spot.{Spot}
 use Rattle.store.specs.Store.{putPage}
 use Rattle.store.proofs.Frames.{put-page-record-used}
+use Rattle.newpages.specs.Pages.{putIn, takenOut, putFor, newEntry, entriesOf, sparesOf, keysOf, childrenOf, IsLeaf, IsInner}
+use Rattle.holding.specs.Held.{KeyHeld}
 use Rattle.records.specs.Touched.{Touched, inUse, Uses, AllUsed, Ends}
 use Rattle.records.specs.Kept.{Came, Went, frontPlaces, backPlaces, enteredKey}
 use Rattle.records.proofs.Marks.{held-ends}
+use Rattle.standing.specs.Stands.{Roomy}
+use Rattle.standing.proofs.Counting.{all-counted}
 use Rattle.entries.specs.Ways.{within, leafOn, atLeaf, renew}
-use Rattle.entries.specs.Owners.{nobody, spotOf, startsBefore, entriesBefore, putEntry, outEntry}
+use Rattle.entries.specs.Owners.{spotOf, startsBefore, entriesBefore, putEntry, outEntry}
 use Rattle.entries.specs.Lies.{Lies, Stepped, LeafReady, LeafStep, OwnerReady, ListStep}
-use Rattle.entries.specs.declared.Spot.{Spot}
 use Rattle.entries.proofs.Holes.{roomy-within}
 use Rattle.entries.proofs.Leafs.{way-of}
 use Rattle.entries.proofs.Cuts.{take-while, drop-while}

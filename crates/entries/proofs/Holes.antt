@@ -9,7 +9,7 @@ use Rattle.words.specs.Lists.{All, count}
 use Rattle.words.proofs.Listed.{all-left, all-right}
 use Rattle.words.proofs.Counted.{count-append}
 use Rattle.xrtree.specs.Tree.{Tree, Listing, listed, listPages, listRecords}
-use Rattle.xrtree.proofs.Whole.{beforeKids, afterKids, keysLeft, listed-parts}
+use Rattle.xrtree.proofs.Holes.{beforeKids, afterKids, keysLeft, listed-parts}
 use Rattle.holding.specs.Held.{placeOf, Held}
 use Rattle.holding.proofs.Frames.{SamePage, SameRecord}
 use Rattle.holding.proofs.Holes.{every-hole, held-hole}

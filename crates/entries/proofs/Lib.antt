@@ -1,5 +1,3 @@
-pub mod Counted
-pub mod Roots
 pub mod Holes
 pub mod Leafs
 pub mod Owning

@@ -9,18 +9,19 @@ use lib.ListN.{length, getD}
 use native.Mathlib.Omega.{arith}
 use Rattle.words.proofs.Tests.{by-test, lt-of, nlt-of, nle-of, lt-yes, lt-no}
 use Rattle.regions.specs.declared.Region.{Region}
+use Rattle.pages.specs.Layout.{pageOf, fillOf, keyWord, childIn}
 use Rattle.xrtree.specs.Tree.{Key, Inner, Tree}
 use Rattle.xrtree.specs.Claims.{pageAt}
 use Rattle.xrtree.specs.Moves.{keyWith, ownKids, own}
 use Rattle.xrtree.specs.Holes.{Post, fillKids, fillLast, fill}
 use Rattle.xrtree.specs.Holes.Post.{atKey, atEnd}
 use Rattle.image.specs.Read.{kidsFrom, readTree}
-use Rattle.pages.specs.Layout.{pageOf, fillOf, keyWord, childIn}
 use Rattle.path.specs.Path.{rankFrom, rankIn, childFor}
+use Rattle.owners.specs.Owners.{nobody, spotAt, belowFrom, belowIn, ownsAt, ownerAlong}
+use Rattle.owners.specs.declared.Spot.{Spot}
 use Rattle.entries.specs.Ways.{Below, within}
 use Rattle.entries.specs.Ways.Below.{here, down}
-use Rattle.entries.specs.Owners.{nobody, spotAt, spotKids, spotOf, belowFrom, belowIn, ownsAt, ownerAlong, insideFrom}
-use Rattle.entries.specs.declared.Spot.{Spot}
+use Rattle.entries.specs.Owners.{spotKids, spotOf, insideFrom}
 
 -- THE WORDS of a path say the tree's owner
 module _ {A : Type 0} (child : ℕ → A) (w ws : List ℕ) (f : A → Spot) (s e q : ℕ) (l : s ≤ e) where

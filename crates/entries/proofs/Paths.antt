@@ -9,20 +9,21 @@ use lib.ListN.{length, getD, take}
 use native.Mathlib.Omega.{arith}
 use Rattle.words.specs.Lists.{All}
 use Rattle.words.proofs.Tests.{by-test, and-left, and-right}
+use Rattle.pages.specs.Layout.{rootOf, pageOf, fillOf, childIn, recordUsed}
 use Rattle.xrtree.specs.Tree.{Key, Leaf, Tree, allKids}
 use Rattle.xrtree.specs.Rules.{filled, filledBelow}
-use Rattle.image.proofs.Fills.{within-facts}
-use Rattle.pages.specs.Layout.{rootOf, pageOf, fillOf, childIn, recordUsed}
 use Rattle.image.specs.Read.{kidsFrom, readTree}
+use Rattle.image.proofs.Fills.{within-facts}
 use Rattle.image.proofs.Listings.{kids-long}
+use Rattle.path.specs.Path.{childFor, pathFrom, downTo, padded, kidFor}
+use Rattle.path.proofs.Ranks.{kid-rank}
+use Rattle.owners.specs.Owners.{ownerAlong}
 use Rattle.holding.specs.Held.{placeOf, EveryKid}
 use Rattle.holding.proofs.Reading.{held-read}
 use Rattle.standing.specs.Stands.{Roomy}
 use Rattle.standing.proofs.Whole.{keys-short}
-use Rattle.path.specs.Path.{childFor, pathFrom, downTo, padded, kidFor}
-use Rattle.path.proofs.Ranks.{kid-rank}
 use Rattle.entries.specs.Ways.{leafOn}
-use Rattle.entries.specs.Owners.{spotOf, ownerAlong, insideFrom}
+use Rattle.entries.specs.Owners.{spotOf, insideFrom}
 use Rattle.entries.specs.Lies.{Lies}
 use Rattle.entries.proofs.Leafs.{leaf-read}
 use Rattle.entries.proofs.Owning.{owner-read}

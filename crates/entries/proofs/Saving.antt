@@ -8,21 +8,22 @@ use native.Mathlib.Omega.{arith}
 use Rattle.words.specs.Lists.{All, Pairs}
 use Rattle.words.proofs.Listed.{all-mono, all-right}
 use Rattle.regions.specs.declared.Region.{Region}
+use Rattle.pages.specs.Layout.{rootOf, pageOf, fillOf}
 use Rattle.xrtree.specs.Tree.{Tree, regions}
 use Rattle.xrtree.specs.Claims.{Over, Fits}
 use Rattle.xrtree.specs.Moves.{put, own}
-use Rattle.pages.specs.Layout.{rootOf, pageOf, fillOf}
 use Rattle.image.specs.Read.{depthOf}
+use Rattle.owners.specs.Owners.{ownerAlong}
+use Rattle.owners.specs.declared.Spot.{Spot}
 use Rattle.newpages.specs.Pages.{newEntry}
 use Rattle.holding.specs.Held.{placeOf}
-use Rattle.standing.specs.Stands.{top}
 use Rattle.records.specs.Touched.{Room}
-use Rattle.entries.specs.Whole.{Whole}
+use Rattle.standing.specs.Stands.{top}
+use Rattle.roots.specs.WholeTree.{Whole}
 use Rattle.entries.specs.Ways.{leafOn, atLeaf, renew}
-use Rattle.entries.specs.Owners.{spotOf, ownerAlong, putEntry}
+use Rattle.entries.specs.Owners.{spotOf, putEntry}
 use Rattle.entries.specs.Lies.{Lies, Stepped, LeafReady, LeafStep, OwnerReady, ListStep}
 use Rattle.entries.specs.Changed.{OneMore, Grown, Entering, Entered}
-use Rattle.entries.specs.declared.Spot.{Spot}
 use Rattle.entries.proofs.Stepped.{stepped-then, lies-of, stands-of}
 use Rattle.entries.proofs.Halves.{ready-fill}
 use Rattle.entries.proofs.Flagged.{spot-same}

@@ -15,7 +15,7 @@ use Rattle.holding.specs.Held.{placeOf}
 use Rattle.standing.specs.Stands.{top}
 use Rattle.path.specs.Path.{pathFrom, padded}
 use Rattle.records.specs.Touched.{Room}
-use Rattle.entries.specs.Whole.{Whole}
+use Rattle.roots.specs.WholeTree.{Whole}
 use Rattle.entries.specs.Ways.{Greater, leafOn}
 
 -- THE SAME TREE BUT ALONG x's WAY: off the way the same children, and every key the same (its list may be another)

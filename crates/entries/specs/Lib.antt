@@ -1,4 +1,3 @@
-pub mod Whole
 pub mod Ways
 pub mod Owners
 pub mod Lies

@@ -6,15 +6,15 @@ use mathlib.Core.List.{List}
 use lib.ListN.{length}
 use lib.Dec.{T}
 use Rattle.regions.specs.declared.Region.{Region}
+use Rattle.pages.specs.Layout.{rootOf, heightOf, sharesOf, pageUsed, recordUsed, imageWords, pageCount, recordCount}
 use Rattle.xrtree.specs.Tree.{Key, Leaf, Tree, leaves, pagePlaces, recordPlaces}
 use Rattle.xrtree.specs.Rules.{linked}
 use Rattle.xrtree.specs.Moves.{own}
-use Rattle.pages.specs.Layout.{rootOf, heightOf, sharesOf, pageUsed, recordUsed, imageWords, pageCount, recordCount}
+use Rattle.owners.specs.declared.Spot.{Spot}
 use Rattle.holding.specs.Held.{placeOf, Held}
 use Rattle.standing.specs.Stands.{Places, Roomy}
 use Rattle.entries.specs.Ways.{leafOn, atLeaf}
 use Rattle.entries.specs.Owners.{spotOf}
-use Rattle.entries.specs.declared.Spot.{Spot}
 
 -- a tree in the words, without the rules on its regions
 pub record Lies (w : List ℕ) (h : ℕ) (t : Tree h) : Type 0 where

@@ -1,83 +1,16 @@
 // The steps of a save and a delete that change the set: an entry comes into its leaf or leaves it, and with it its owner's list; and the root's two steps.
 ghost use mathlib.Core.Path.{_≡_};
-ghost use mathlib.Core.List.{List, []};
-ghost use Prim.Native.Nat.{ℕ, suc, _≤_, _<_};
-ghost use lib.ListN.{length, take};
-ghost use Rattle.words.specs.Lists.{All};
-ghost use Rattle.regions.specs.declared.Region.{Region};
-ghost use Rattle.xrtree.specs.Tree.{Tree};
-ghost use Rattle.xrtree.specs.Claims.{pageAt};
+ghost use Prim.Native.Nat.{_≤_, _<_};
 ghost use Rattle.xrtree.specs.Moves.{put, out};
-ghost use Rattle.pages.specs.Layout.{heightOf, pageOf, fillOf, imageWords};
+ghost use Rattle.pages.specs.Layout.{pageOf, fillOf};
 ghost use Rattle.newpages.specs.Pages.{newEntry};
 ghost use Rattle.records.specs.Touched.{Room};
-ghost use Rattle.entries.specs.Whole.{Whole, PageRoom, Grew, RootIs, Shrank};
 ghost use Rattle.entries.specs.Ways.{renew};
-ghost use Rattle.entries.specs.Owners.{belowIn, ownsAt, ownerAlong, entriesBefore, putEntry, outEntry};
+ghost use Rattle.entries.specs.Owners.{entriesBefore, putEntry, outEntry};
 ghost use Rattle.entries.specs.Lies.{LeafReady, LeafStep, OwnerReady, ListStep};
 ghost use Rattle.entries.specs.Changed.{Entering, Entered, Leaving, Left};
+use owners::Spot;
 use regions::Region;
-
-// Where a region's owner stands: key number `key` of page `page`; flag 0 where no key on the path owns the region.
-pub struct Spot {
-    pub flag: u32,
-    pub page: u32,
-    pub key: usize,
-}
-
-// The first key of an inner page that is not below x; how many keys there are where all are.
-fn below(img: &[u32], page: u32, x: u32) -> usize
-    requires { ⌜ fillOf (pageOf (now img) page) ≤ 9 ⌝ }
-    ensures { λ r. ⌜ r ≡ belowIn (pageOf (now (img .entry)) page) x ⌝ }
-{
-    let n = words::wide(pages::fill(img, page));
-    let mut i: usize = 0;
-    while i < n {
-        if x <= pages::key_number(img, page, i) {
-            return i;
-        }
-        i += 1;
-    }
-    i
-}
-
-// Is there a key i, and is it at most `end`.
-fn owns(img: &[u32], page: u32, i: usize, end: u32) -> bool
-    requires { ⌜ fillOf (pageOf (now img) page) ≤ 9 ⌝ }
-    ensures { λ r. ⌜ r ≡ ownsAt (pageOf (now (img .entry)) page) end (fillOf (pageOf (now (img .entry)) page)) i ⌝ }
-{
-    let n = words::wide(pages::fill(img, page));
-    if i < n {
-        return pages::key_number(img, page, i) <= end;
-    }
-    false
-}
-
-// The owner of a region among the keys of the first d pages of its path. The path goes right of keys that are at most the start, the owner's
-// way left of the first that is not below it: they part only at a key that is the start, and that one owns the region.
-fn owner(img: &[u32], path: [u32; 4], d: usize, start: u32, end: u32) -> Spot
-    requires { ⌜ (d ≤ 3) × All (λ p. fillOf (pageOf (now img) p) ≤ 9) (take d path) ⌝ }
-    ensures { λ r. ⌜ r ≡ ownerAlong (now (img .entry)) start end (take d path) ⌝ }
-{
-    let mut i: usize = 0;
-    while i < d {
-        let p = path[i];
-        let k = below(img, p, start);
-        if owns(img, p, k, end) {
-            return Spot {
-                flag: 1,
-                page: p,
-                key: k,
-            };
-        }
-        i += 1;
-    }
-    Spot {
-        flag: 0,
-        page: 0,
-        key: 0,
-    }
-}
 
 // How many entries of a leaf start before x.
 fn entries_before(img: &[u32], leaf: u32, x: u32) -> usize
@@ -157,7 +90,7 @@ pub fn put_entry(img: &mut [u32], path: [u32; 4], r: Region)
 {
     let d = path::depth(img);
     let leaf = path[d];
-    let at = owner(img, path, d, r.start, r.end);
+    let at = owners::owner(img, path, d, r.start, r.end);
     put_leaf(img, leaf, r, at.flag);
     enter_owner(img, at, r);
 }
@@ -171,34 +104,7 @@ pub fn take_entry(img: &mut [u32], path: [u32; 4], start: u32)
     let leaf = path[d];
     let i = entries_before(img, leaf, start);
     let r = pages::entry_region(img, leaf, i);
-    let at = owner(img, path, d, r.start, r.end);
+    let at = owners::owner(img, path, d, r.start, r.end);
     take_leaf(img, leaf, start, i);
     leave_owner(img, at, r);
-}
-
-// A new root with no key, above the old one.
-pub fn grow_root(img: &mut [u32])
-    requires { ⌜ (length (now img) ≡ imageWords) × (heightOf (now img) ≤ 4) × PageRoom (now img) ⌝ }
-    ensures { λ _. ⌜ ((rs : List Region) (h : ℕ) (t : Tree h) → Whole (now (img .entry)) rs h t → Grew (now (img .entry)) (now (img .exit)) rs h t) ⌝ }
-{
-    let q = store::first_free_page(img);
-    let old = path::root(img);
-    let tall = words::word(img, 1);
-    let ws = newpages::inner_single(old);
-    store::store_page(img, q, ws);
-    store::set_root(img, q);
-    store::set_height(img, tall + 1);
-}
-
-// A root with no key gives way to its only child.
-pub fn shrink_root(img: &mut [u32])
-    requires { ⌜ RootIs (now img) ⌝ }
-    ensures { λ _. ⌜ ((rs : List Region) (h q : ℕ) (t : Tree h) → Whole (now (img .entry)) rs (suc h) (pageAt q [] t) → Shrank (now (img .entry)) (now (img .exit)) rs h t) ⌝ }
-{
-    let old = path::root(img);
-    let child = pages::child(img, old, 0);
-    let tall = words::word(img, 1);
-    store::free_page(img, old);
-    store::set_root(img, child);
-    store::set_height(img, tall - 1);
 }

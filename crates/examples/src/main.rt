@@ -3,7 +3,6 @@
 use regions::Kind;
 use regions::Region;
 use regions::Seat;
-use regions::State;
 
 // An example's line.
 fn check(name: &[u8], got: usize, expected: usize) {
@@ -43,7 +42,7 @@ fn delete(img: &mut [u32], start: u32) -> usize {
 
 fn ancestors(img: &[u32], p: u32) -> usize {
     let mut out = [0u32; 64];
-    let r = index::find_ancestors(img, 0, p, &mut out);
+    let r = queries::find_ancestors(img, 0, p, &mut out);
     r.total
 }
 
@@ -93,7 +92,7 @@ fn full_account(outer: &mut [u32]) {
 
 fn join(outer: &[u32], inner: &[u32], out: &mut [u32]) -> usize {
     let kind = Kind::Ancestor;
-    let r = index::join_sets(outer, inner, 0, kind, out);
+    let r = queries::join_sets(outer, inner, 0, kind, out);
     r.total
 }
 
@@ -121,14 +120,9 @@ fn bench_join(outer: &[u32], inner: &[u32]) {
     check(b"pairs of 95", pairs_of(&out, 95), 0);
 }
 
-fn closed_seat() -> Seat {
-    let st = State::Closed;
-    Seat { state: st }
-}
-
 // The desk with seat 0 open for account 0's ancestor join, at limit 3.
 fn open_desk() -> [Seat; regions::SEAT_COUNT] {
-    let s = closed_seat();
+    let s = regions::closed_seat();
     let seats = [s; regions::SEAT_COUNT];
     let d = desk::open_desk_by_value(seats);
     let desk = d.seats;
@@ -185,7 +179,7 @@ fn outer_list_ends(outer: &mut [u32], inner: &mut [u32]) {
 fn outermost_first(outer: &mut [u32]) {
     open_outer(outer, 10);
     let mut out = [0u32; 12];
-    index::find_ancestors(outer, 0, 35, &mut out);
+    queries::find_ancestors(outer, 0, 35, &mut out);
     check(b"the first ancestor of 35", words::wide(out[0]), 10);
     check(b"the second", words::wide(out[4]), 20);
     check(b"the third", words::wide(out[8]), 30);
@@ -196,7 +190,7 @@ fn leaf_ends(outer: &mut [u32]) {
     open_outer(outer, 10);
     check(b"ancestors of a start", ancestors(outer, 60), 1);
     let mut out = [0u32; 64];
-    let d = index::find_descendants(outer, 0, 5, 1000, 0, &mut out);
+    let d = queries::find_descendants(outer, 0, 5, 1000, 0, &mut out);
     check(b"descendants up to the last leaf's end", d.count, 4);
 }
 

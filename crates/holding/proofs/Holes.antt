@@ -8,7 +8,7 @@ use Rattle.words.specs.Lists.{All}
 use Rattle.words.proofs.Listed.{all-left, all-right, all-append}
 use Rattle.xrtree.specs.Tree.{Key, Tree, weave, listed, listPages, listRecords}
 use Rattle.xrtree.specs.Holes.{Post, fillKids, fillLast, fill, up, Ctx, plug}
-use Rattle.xrtree.proofs.Whole.{before, after, beforeKids, afterKids}
+use Rattle.xrtree.proofs.Holes.{before, after, beforeKids, afterKids}
 use Rattle.xrtree.specs.Holes.Post.{atKey, atEnd}
 use Rattle.pages.specs.Layout.{fillOf}
 use Rattle.image.specs.Decode.{keysFrom}

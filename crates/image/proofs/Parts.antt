@@ -4,13 +4,13 @@ use Prim.Native.Nat.{ℕ}
 use mathlib.Core.Path.{_≡_, refl}
 use mathlib.Core.Bool.{Bool, true, false, _&&_}
 use mathlib.Core.List.{List}
+use Rattle.words.proofs.Tests.{and-false}
+use Rattle.pages.specs.Layout.{pageCount, recordCount, pageUsed, recordUsed}
 use Rattle.xrtree.specs.Tree.{pagePlaces, recordPlaces}
 use Rattle.xrtree.specs.Rules.{rule1, rule2, rule3, rule4, rule5, rule6, placed}
-use Rattle.pages.specs.Layout.{pageCount, recordCount, pageUsed, recordUsed}
 use Rattle.image.specs.Read.{depthOf, treeOf, setOf}
 use Rattle.image.specs.Valid.{sized, rule7, treeRules, valid}
 use Rattle.image.specs.Shape.{shapely, regionsRight, listsRight}
-use Rattle.words.proofs.Tests.{and-false}
 
 regroup : (s a b c d e f p q : Bool) → (s && ((a && (b && (c && (d && e)))) && (f && (p && q)))) ≡ ((s && (a && (b && p))) && (f && (c && (d && (e && q)))))
 regroup false a b c d e f p q = refl

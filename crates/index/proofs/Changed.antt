@@ -8,11 +8,11 @@ use Rattle.words.proofs.Tests.{of-T}
 use Rattle.regions.specs.Numbers.{imageFirst}
 use Rattle.regions.specs.Calls.{saveNo, deleteNo}
 use Rattle.regions.specs.declared.Region.{Region}
+use Rattle.regions.proofs.Numbers.{own-number}
 use Rattle.image.specs.Read.{setOf}
 use Rattle.image.specs.Valid.{valid}
 use Rattle.changes.specs.Changed.{SavesIn, DeletesIn}
 use Rattle.index.specs.Changes.{Saves, Deletes}
-use Rattle.index.proofs.Answers.{own-number}
 
 -- the number of a call on a valid image is the call's own
 tested-number : (w : List ℕ) (m n : ℕ) → T (valid w) → m ≡ n → m ≡ imageFirst (valid w) n

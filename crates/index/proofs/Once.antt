@@ -1,27 +1,12 @@
--- Each promise has one result: any two results that it allows are equal.
+-- Each promise of a call that changes a set has one result, as far as it is said: number, meaning, and every word where it is refused.
 -- Assumes nothing.
 use Prim.Native.Nat.{ℕ}
-use mathlib.Core.Path.{_≡_, refl, sym, ap, _∙_}
-use mathlib.Core.Bool.{Bool, not, true≢false}
-use mathlib.Core.List.{List, head-eq-of-cons-eq}
-use lib.Dec.{eqb}
-use Rattle.words.specs.Lists.{some}
-use Rattle.words.proofs.Tests.{by-test, eq-of, ne-of}
+use mathlib.Core.Path.{_≡_, sym, ap, _∙_}
+use mathlib.Core.List.{List}
+use Rattle.words.proofs.Tests.{either-way}
 use Rattle.regions.specs.declared.Region.{Region}
-use Rattle.regions.specs.declared.Kind.{Kind}
 use Rattle.image.specs.Read.{setOf}
 use Rattle.index.specs.Changes.{Saves, Deletes}
-use Rattle.index.specs.Searches.{FindsAncestors, parentNumber, parentFound, isRefusal, FindsParent, Lists}
-use Rattle.index.specs.Joins.{JoinsSets}
-use Rattle.index.specs.declared.Parent.{Parent}
-use Rattle.index.specs.declared.Parent.the-variants.{Refused, Nothing, At}
-
--- done or refused, by one number
-either-way : (m n : ℕ) {C : Type 0} → m ≡ n → ((m ≡ 0) → (n ≡ 0) → C) → ((m ≡ 0 → ⊥) → (n ≡ 0 → ⊥) → C) → C
-either-way m n e f g =
-    by-test (eqb m 0)
-    (λ t. let z = eq-of m 0 t in f z (sym e ∙ z))
-    (λ t. let z = ne-of m 0 t in g z (λ q. z (e ∙ q)))
 
 -- of saves and deletes the number and the meaning; a refusal fixes every word
 pub saves-once : (w : List ℕ) (a : ℕ) (r : Region) (m n : ℕ) (u v : List ℕ) → Saves w a r m u → Saves w a r n v → (m ≡ n) × (setOf u ≡ setOf v) × ((m ≡ 0 → ⊥) → u ≡ v)
@@ -39,45 +24,3 @@ deletes-once w a s m n u v x y =
       either-way m n e (λ p q. x .done p .1 ∙ sym (y .done q .1)) (λ p q. ap setOf (x .refused p ∙ sym (y .refused q))),
       (λ p. x .refused p ∙ sym (y .refused (λ q. p (e ∙ q)))),
     )
-
-pub ancestors-once : (w : List ℕ) (a p : ℕ) (out : List ℕ) (m n s t i j : ℕ) (u v : List ℕ) → FindsAncestors w a p out m s i u → FindsAncestors w a p out n t j v
-    → (m ≡ n) × (s ≡ t) × (i ≡ j) × (u ≡ v)
-ancestors-once w a p out m n s t i j u v x y =
-    let e : m ≡ n = x .number-is ∙ sym (y .number-is) in
-    either-way m n e
-    (λ c d. (e, x .done c .0 ∙ sym (y .done d .0), x .done c .1 ∙ sym (y .done d .1), x .done c .2 ∙ sym (y .done d .2)))
-    (λ c d. (e, x .refused c .0 ∙ sym (y .refused d .0), x .refused c .1 ∙ sym (y .refused d .1), x .refused c .2 ∙ sym (y .refused d .2)))
-
--- the parent search's answer
-same-answer : (x y : Parent) → parentNumber x ≡ parentNumber y → parentFound x ≡ parentFound y → isRefusal x ≡ not (eqb (parentNumber x) 0) → isRefusal y ≡ not (eqb (parentNumber y) 0) → x ≡ y
-unfolding parentNumber parentFound isRefusal some
-same-answer (Refused m) (Refused n) e f g h = ap Refused e
-same-answer (Refused m) Nothing e f g h = absurd (true≢false (g ∙ ap (λ k. not (eqb k 0)) e))
-same-answer (Refused m) (At s) e f g h = absurd (true≢false (g ∙ ap (λ k. not (eqb k 0)) e))
-same-answer Nothing (Refused n) e f g h = absurd (true≢false (h ∙ ap (λ k. not (eqb k 0)) (sym e)))
-same-answer Nothing Nothing e f g h = refl
-same-answer Nothing (At s) e f g h = absurd (true≢false (sym (ap some f)))
-same-answer (At r) (Refused n) e f g h = absurd (true≢false (h ∙ ap (λ k. not (eqb k 0)) (sym e)))
-same-answer (At r) Nothing e f g h = absurd (true≢false (ap some f))
-same-answer (At r) (At s) e f g h = ap At (head-eq-of-cons-eq f)
-
-pub parent-once : (w : List ℕ) (a p l : ℕ) (x y : Parent) → FindsParent w a p l x → FindsParent w a p l y → x ≡ y
-parent-once w a p l x y f g =
-    let e : parentNumber x ≡ parentNumber y = f .number-is ∙ sym (g .number-is) in
-    same-answer x y e (either-way (parentNumber x) (parentNumber y) e (λ c d. f .done c ∙ sym (g .done d)) (λ c d. f .refused c ∙ sym (g .refused d))) (f .case-is) (g .case-is)
-
-pub lists-once : (w : List ℕ) (a b e : ℕ) (rs : List Region) (out : List ℕ) (m n s t : ℕ) (i j : Bool) (u v : List ℕ) → Lists w a b e rs out m s i u → Lists w a b e rs out n t j v
-    → (m ≡ n) × (s ≡ t) × (i ≡ j) × (u ≡ v)
-lists-once w a b f rs out m n s t i j u v x y =
-    let e : m ≡ n = x .number-is ∙ sym (y .number-is) in
-    either-way m n e
-    (λ c d. (e, x .done c .0 ∙ sym (y .done d .0), x .done c .1 ∙ sym (y .done d .1), x .done c .2 ∙ sym (y .done d .2)))
-    (λ c d. (e, x .refused c .0 ∙ sym (y .refused d .0), x .refused c .1 ∙ sym (y .refused d .1), x .refused c .2 ∙ sym (y .refused d .2)))
-
-pub joins-once : (outer inner : List ℕ) (a : ℕ) (k : Kind) (out : List ℕ) (m n s t : ℕ) (u v : List ℕ) → JoinsSets outer inner a k out m s u → JoinsSets outer inner a k out n t v
-    → (m ≡ n) × (s ≡ t) × (u ≡ v)
-joins-once outer inner a k out m n s t u v x y =
-    let e : m ≡ n = x .number-is ∙ sym (y .number-is) in
-    either-way m n e
-    (λ c d. (e, x .done c .0 ∙ sym (y .done d .0), x .done c .1 ∙ sym (y .done d .1)))
-    (λ c d. (e, x .refused c .0 ∙ sym (y .refused d .0), x .refused c .1 ∙ sym (y .refused d .1)))

@@ -14,15 +14,6 @@ use Rattle.words.proofs.Tests.{eq-yes, eq-no, lt-yes, lt-no, le-of, nle-of}
 use Rattle.regions.specs.Calls.{openSetNo}
 use Rattle.index.specs.Opening.{openedImage, openNo, OpensSet}
 
--- SHARES: the sum from one account on
-pub sum-more : (shares : List ℕ) (a : ℕ) → a < length shares → sum (drop a shares) ≡ getD shares a 0 + sum (drop (a + 1) shares)
-unfolding sum
-sum-more shares a h = rw (add-one, drop-cons shares a 0 h)
-
-pub sum-none : (shares : List ℕ) (a : ℕ) → length shares ≤ a → sum (drop a shares) ≡ 0
-unfolding sum
-sum-none shares a h = rw (drop-of-length-le shares h)
-
 -- WORDS: those before i are 0
 pub cleared : (w : List ℕ) (i : ℕ) → i < length w → take i w ≡ replicate i 0 → take (i + 1) (set w i 0) ≡ replicate (i + 1) 0
 cleared w i h e = rw (add-one, take-suc-set w i 0 h, e) (last i)

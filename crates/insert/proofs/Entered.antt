@@ -38,7 +38,7 @@ use Rattle.room.proofs.Fills.{kids-every, of-filled, of-root, of-root-leaf, eve
 use Rattle.room.proofs.Pages.{few-pages}
 use Rattle.room.proofs.Records.{room-whole, whole-few, record-free}
 use Rattle.room.proofs.Sets.{SetFacts, saved-facts, save-room, facts-few, valid-set}
-use Rattle.entries.specs.Whole.{Whole}
+use Rattle.roots.specs.WholeTree.{Whole}
 use Rattle.entries.specs.Ways.{Greater}
 use Rattle.entries.specs.Changed.{SameKids, SamePost, WayStep, Along, OneMore, Entering, Entered}
 use Rattle.entries.proofs.Alongs.{low-same, high-same}

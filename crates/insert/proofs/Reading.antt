@@ -20,7 +20,7 @@ use Rattle.path.specs.Path.{rankFrom, rankIn, childFor, pathFrom, pathOf, downT
 use Rattle.path.proofs.Ranks.{rank-none, rank-here, rank-on, kid-rank}
 use Rattle.path.proofs.Ways.{path-read, down-none, down-on}
 use Rattle.room.specs.Ways.{OnWay}
-use Rattle.entries.specs.Whole.{Whole}
+use Rattle.roots.specs.WholeTree.{Whole}
 use Rattle.insert.specs.Spreads.{OnPath}
 
 -- a page says how many entries or keys it holds

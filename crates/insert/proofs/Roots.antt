@@ -19,8 +19,8 @@ use Rattle.room.proofs.Pages.{root-narrow}
 use Rattle.room.proofs.Records.{room-whole, page-free}
 use Rattle.room.proofs.Becoming.{splitPage}
 use Rattle.room.proofs.Spreading.{grown-root}
-use Rattle.entries.specs.Whole as owner
-use Rattle.entries.specs.Whole.{Grew}
+use Rattle.roots.specs.WholeTree as owner
+use Rattle.roots.specs.WholeTree.{Grew}
 use Rattle.insert.specs.Spreads.{Settling, Settled, Topping, Topped}
 use Rattle.insert.proofs.Reading.{held-size}
 

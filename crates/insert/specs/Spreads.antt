@@ -17,7 +17,7 @@ use Rattle.standing.specs.Stands.{Around, nothingAround, Stands}
 use Rattle.steps.specs.Steps.{size, KidsFilled, ChildAt, pageHere, Split}
 use Rattle.path.specs.Path.{kidFor}
 use Rattle.room.specs.Ways.{Below, RecordRoom, PageRoom, Becomes}
-use Rattle.entries.specs.Whole.{Whole}
+use Rattle.roots.specs.WholeTree.{Whole}
 
 -- A CHILD IN ITS PAGE, which has room for one key more: where it holds nine, it is split at 4
 pub record Settling (w : List ℕ) (h q i p low : ℕ) : Type 0 where

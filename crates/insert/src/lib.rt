@@ -50,7 +50,7 @@ fn relieve_root(img: &mut [u32], low: usize)
     if pages::fill(img, p) != 9 {
         return;
     }
-    entries::grow_root(img);
+    roots::grow_root(img);
     let q = path::root(img);
     let path = [q, p, 0, 0];
     settle(img, path, 0, 0, low);

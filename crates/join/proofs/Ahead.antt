@@ -12,7 +12,7 @@ use Rattle.words.specs.Lists.{filter, All}
 use Rattle.words.proofs.Tests.{by-test}
 use Rattle.words.proofs.Listed.{all-mono, all-every, all-map, all-kept, filter-yes, filter-no, filter-all, filter-none, filter-within, none-of, filter-flat}
 use Rattle.words.proofs.Counted.{filter-short}
-use Rattle.regions.specs.Positions.{account, holds}
+use Rattle.regions.specs.Positions.{account, holds, lowest}
 use Rattle.regions.specs.Sets.{Set, of, startsFrom}
 use Rattle.regions.specs.Calls.{Pair, pairsWith, pairOf, pairsOf, joined}
 use Rattle.regions.specs.Desk.{isPast, past}
@@ -20,14 +20,14 @@ use Rattle.regions.specs.declared.Region.{Region}
 use Rattle.regions.specs.declared.Kind.{Kind}
 use Rattle.regions.specs.declared.Mark.{Mark}
 use Rattle.regions.specs.declared.Mark.the-variants.{Fresh, Last}
-use Rattle.regions.proofs.Extra.{true-so, so-true, false-so, so-false}
+use Rattle.words.proofs.Says.{true-so, so-true, false-so, so-false}
 use Rattle.regions.proofs.Means.{of-says, from-says}
 use Rattle.regions.specs.Sound.{Wf}
 use Rattle.regions.proofs.Local.{holds-account}
 use Rattle.regions.proofs.Joined.{pairs-hold, later-says}
 use Rattle.stack.proofs.Stacks.{upto-strict, holders-skip, from-within, First}
 use Rattle.stack.proofs.Pairs.{pairs-not}
-use Rattle.join.specs.Joins.{lowest, firstPosition, Clear}
+use Rattle.skips.specs.Joins.{firstPosition, Clear}
 
 -- FROM A POSITION ON
 pub from-all : (rs : List Region) → filter (startsFrom 0) rs ≡ rs

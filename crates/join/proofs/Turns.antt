@@ -10,18 +10,23 @@ use native.Mathlib.Omega.{arith}
 use Rattle.words.specs.Lists.{filter}
 use Rattle.words.proofs.Tests.{by-test, nlt-of}
 use Rattle.words.proofs.Counted.{filter-short}
-use Rattle.regions.specs.Positions.{account, holds}
+use Rattle.regions.specs.Positions.{account, holds, lowest}
 use Rattle.regions.specs.Sets.{of, startsFrom}
 use Rattle.regions.specs.Calls.{Pair, room, written, countWritten, pairsOf, joined, pairWords}
 use Rattle.regions.specs.Desk.{past}
 use Rattle.regions.specs.declared.Region.{Region}
 use Rattle.regions.specs.declared.Kind.{Kind}
 use Rattle.regions.specs.declared.Mark.{Mark}
-use Rattle.regions.proofs.Fits.{count-is}
 use Rattle.regions.specs.Sound.{Rising, Sound}
+use Rattle.regions.proofs.Fits.{count-is}
 use Rattle.image.specs.Read.{setOf}
 use Rattle.answers.specs.Items.{writtenFrom}
 use Rattle.answers.proofs.Items.{from-none, from-full, from-first}
+use Rattle.pairing.specs.Pairs.{counted, PairedUp}
+use Rattle.stack.specs.Stacks.{stacked}
+use Rattle.stack.proofs.Stacks.{upto-strict, First, first-from}
+use Rattle.stack.proofs.Stacked.{stacked-long}
+use Rattle.stack.proofs.Pairs.{paired-long, paired-whole}
 use Rattle.leaves.specs.declared.Entry.{Entry}
 use Rattle.leaves.specs.declared.Cursor.{Cursor}
 use Rattle.leaves.specs.declared.Step.{Step}
@@ -29,17 +34,15 @@ use Rattle.leaves.specs.declared.Step.the-variants.{Next, End}
 use Rattle.leaves.specs.Cursors.{left, stepFrom, startFaced}
 use Rattle.leaves.specs.Faces.{Faces}
 use Rattle.leaves.proofs.Faces.{never, Onward, faces-on, faces-end, faces-long}
-use Rattle.stack.specs.Stacks.{stacked}
-use Rattle.stack.specs.Pairs.{counted, PairedUp}
-use Rattle.stack.proofs.Stacks.{upto-strict, First, first-from}
-use Rattle.stack.proofs.Stacked.{stacked-long}
-use Rattle.stack.proofs.Pairs.{paired-long, paired-whole}
-use Rattle.join.specs.declared.Stack.{Stack}
-use Rattle.join.specs.Places.{Placed, Behind}
-use Rattle.join.specs.Joins.{lowest, firstPosition, ownStep, Moved, Joined}
-use Rattle.join.proofs.Moves.{placed-behind, behind-later, placed-few, placed-pairs}
+use Rattle.follow.specs.declared.Stack.{Stack}
+use Rattle.follow.specs.Places.{Placed, Behind}
+use Rattle.follow.proofs.Moves.{placed-behind, behind-later, placed-few}
+use Rattle.skips.specs.Joins.{firstPosition, ownStep, Moved}
+use Rattle.skips.proofs.Ways.{clear-next}
+use Rattle.join.specs.Joins.{Joined}
+use Rattle.join.proofs.Moves.{placed-pairs}
 use Rattle.join.proofs.Ahead.{from-fewer, position-low, pairsAt, pairsFrom, pairs-own, ahead-skip, ahead-own, ahead-other, ahead-none, ahead-all}
-use Rattle.join.proofs.Ways.{foreign-end, clear-next, clear-same}
+use Rattle.join.proofs.Ways.{foreign-end, clear-same}
 
 -- STEPS: what a step of the account says of the cursor's own
 pub own-next : (a : ℕ) (s : Step) (e : Entry) (on : Cursor) → ownStep a s ≡ Next e on → (s ≡ Next e on) × (of a (e .region) ≡ true)

@@ -1,59 +1,23 @@
 -- Each way in which the join's small functions come to their answers, as the definitions have it.
 -- Assumes nothing.
-use Prim.Native.Nat.{ℕ, suc, _<_, _≤_, min}
-use mathlib.Core.Path.{_≡_, refl, sym, _∙_, subst}
-use mathlib.Core.Bool.{Bool, false, cond, _||_, true≢false}
-use mathlib.Core.List.{List, [], _∷_}
+use Prim.Native.Nat.{ℕ, _<_, _≤_, min}
+use mathlib.Core.Path.{_≡_, refl}
+use mathlib.Core.Bool.{Bool, false, cond, _||_}
+use mathlib.Core.List.{List}
 use lib.Dec.{ltb}
 use native.Mathlib.Omega.{arith}
-use Rattle.words.specs.Lists.{filter, All}
-use Rattle.words.proofs.Tests.{by-test, eq-yes, eq-no, lt-yes, lt-no}
+use Rattle.words.specs.Lists.{filter}
+use Rattle.words.proofs.Tests.{eq-no}
 use Rattle.words.proofs.Listed.{all-mono, filter-same}
 use Rattle.words.proofs.Says.{says-same, says-iff}
 use Rattle.regions.specs.Positions.{account}
 use Rattle.regions.specs.Sets.{of, startsFrom}
 use Rattle.regions.specs.declared.Region.{Region}
-use Rattle.regions.specs.declared.Mark.{Mark}
-use Rattle.regions.specs.declared.Mark.the-variants.{Fresh, Last}
-use Rattle.regions.proofs.Extra.{false-so}
 use Rattle.regions.proofs.Means.{from-says}
-use Rattle.regions.specs.Sound.{Rising}
-use Rattle.image.specs.Read.{setOf}
-use Rattle.leaves.specs.declared.Entry.{Entry}
-use Rattle.leaves.specs.declared.Cursor.{Cursor}
 use Rattle.leaves.specs.declared.Step.{Step}
 use Rattle.leaves.specs.declared.Step.the-variants.{Next, End}
-use Rattle.leaves.specs.Cursors.{stepFrom, startFaced}
-use Rattle.leaves.specs.Faces.{Faces}
-use Rattle.leaves.proofs.Faces.{faces-on, faces-end, faced-is}
-use Rattle.stack.proofs.Stacks.{come-same, First, first-from}
-use Rattle.join.specs.Joins.{lowest, firstPosition, ownStep, Before, Clear, Moved}
-
--- WHERE THE JOIN BEGINS
-pub position-fresh : (a : ℕ) (m : Mark) → m ≡ Fresh → lowest a ≡ firstPosition a m
-unfolding firstPosition
-position-fresh a m e = rw e
-
-pub position-lowest : (a x y : ℕ) (m : Mark) → m ≡ Last x y → y < lowest a → lowest a ≡ firstPosition a m
-unfolding firstPosition
-position-lowest a x y m e l = rw e (omega arith)
-
-pub position-marked : (a x y : ℕ) (m : Mark) → m ≡ Last x y → lowest a ≤ y → y ≡ firstPosition a m
-unfolding firstPosition
-position-marked a x y m e l = rw e (omega arith)
-
--- A STEP OF THE ACCOUNT
-pub own-end : (a : ℕ) (s : Step) → s ≡ End → End ≡ ownStep a s
-unfolding ownStep
-own-end a s e = rw e
-
-pub own-other : (a b : ℕ) (s : Step) (e : Entry) (on : Cursor) → s ≡ Next e on → b ≡ account (e .region .start) → (b ≡ a → ⊥) → End ≡ ownStep a s
-unfolding ownStep of
-own-other a b s e on p q n = rw (p, eq-no (account (e .region .start)) a (λ z. n (q ∙ z)))
-
-pub own-one : (a b : ℕ) (s : Step) (e : Entry) (on : Cursor) → s ≡ Next e on → b ≡ account (e .region .start) → b ≡ a → Next e on ≡ ownStep a s
-unfolding ownStep of
-own-one a b s e on p q n = rw (p, eq-yes (account (e .region .start)) a (sym q ∙ n))
+use Rattle.leaves.specs.Cursors.{startFaced}
+use Rattle.skips.specs.Joins.{ownStep, Clear}
 
 -- the start that is faced is of another account: it is no step of this one
 pub foreign-end : (a : ℕ) (s : Step) → (account (startFaced s) ≡ a → ⊥) → ownStep a s ≡ End
@@ -61,71 +25,11 @@ unfolding ownStep startFaced of
 foreign-end a End n = refl
 foreign-end a (Next e on) n = rw (eq-no (account (e .region .start)) a n)
 
--- THE NEXT START of the outer set
-all-from : (p q : ℕ) (xs : List Region) → All (λ (r : Region). q ≤ r .start) (filter (startsFrom p) xs) → All (λ (r : Region). p ≤ r .start → q ≤ r .start) xs
-unfolding filter
-all-from p q [] k = tt
-all-from p q (x ∷ xs) k =
-    by-test (startsFrom p x)
-    (λ e. let k′ = rw e at k in ((λ u. k′ .0), all-from p q xs (k′ .1)))
-    (λ e. let k′ = rw e at k in ((λ u. absurd (false-so (from-says p x) e u)), all-from p q xs k′))
-
-clear-from : (rs : List Region) (p q : ℕ) → p ≤ q → All (λ (r : Region). q ≤ r .start) (filter (startsFrom p) rs) → Clear rs p q
-clear-from rs p q l h = record { far = l; none = all-from p q rs h }
-
-pub clear-next : (w : List ℕ) (p q : ℕ) (c : Cursor) → p < 4294967296 → Rising (setOf w .regions) → Faces w c (filter (startsFrom p) (setOf w .regions)) → q ≡ startFaced (stepFrom w c)
-    → Clear (setOf w .regions) p q
-unfolding startFaced
-clear-next w p q c l up f g = go (stepFrom w c) refl g
-  where
-    go : (s : Step) → stepFrom w c ≡ s → q ≡ startFaced s → Clear (setOf w .regions) p q
-    go End s k = clear-from (setOf w .regions) p q (omega arith) (rw (faces-end w c _ f s) tt)
-    go (Next e on) s k =
-        let o = faces-on w c _ e on f s in
-        let m = first-from (setOf w .regions) p (e .region) (o .rest) up (o .is) in
-        clear-from (setOf w .regions) p q (omega (arith, m .low)) (rw (o .is, k) (m .least))
-
 -- the regions from either end on are the same
 pub clear-same : {rs : List Region} {p q : ℕ} → Clear rs p q → filter (startsFrom p) rs ≡ filter (startsFrom q) rs
 clear-same {rs} {p} {q} k =
     filter-same (startsFrom p) (startsFrom q) rs
     (all-mono (λ r n. says-same (from-says p r) (says-iff (from-says q r) (λ h. omega (arith, k .far)) (λ h. n h))) rs (k .none))
-
--- THE INNER CURSOR forward, past x
-module _ {w : List ℕ} {x : ℕ} {c : Cursor} (b : Before w (suc x) c) (up : Rising (setOf w .regions)) where
-  passed : All (λ (r : Region). suc x ≤ r .start) (filter (startsFrom (b .at)) (setOf w .regions)) → Faces w c (filter (startsFrom (suc x)) (setOf w .regions))
-  passed h = subst (λ (l : List Region). Faces w c l) (come-same (b .at) (suc x) 0 (setOf w .regions) up (b .far) h) (b .faces)
-
-  pub forward-end : stepFrom w c ≡ End → Faces w c (filter (startsFrom (suc x)) (setOf w .regions))
-  forward-end s = passed (rw (faces-end w c _ (b .faces) s) tt)
-
-  module _ (e : Entry) (on : Cursor) (s : stepFrom w c ≡ Next e on) where
-    first : First (setOf w .regions) (b .at) (e .region) (faces-on w c _ e on (b .faces) s .rest)
-    first = first-from (setOf w .regions) (b .at) (e .region) _ up (faces-on w c _ e on (b .faces) s .is)
-
-    forward-stop : x < e .region .start → Faces w c (filter (startsFrom (suc x)) (setOf w .regions))
-    forward-stop l = passed (rw (faces-on w c _ e on (b .faces) s .is) (all-mono {Q = λ r. suc x ≤ r .start} (λ r m. omega arith) (e .region ∷ faces-on w c _ e on (b .faces) s .rest) (first .least)))
-
-    pub forward-on : e .region .start ≤ x → Before w (suc x) on
-    forward-on l = record { at = suc (e .region .start); far = omega arith; faces = subst (λ (l : List Region). Faces w on l) (first .others) (faces-on w c _ e on (b .faces) s .faces) }
-
-  pub forward-there : x < startFaced (stepFrom w c) → Faces w c (filter (startsFrom (suc x)) (setOf w .regions))
-  forward-there l = go (stepFrom w c) refl
-    where
-      go : (s : Step) → stepFrom w c ≡ s → Faces w c (filter (startsFrom (suc x)) (setOf w .regions))
-      go End s = forward-end s
-      go (Next e on) s = forward-stop e on s (omega (arith, faced-is (stepFrom w c) e on s))
-
--- THE NEXT d
-pub moved-before : (w : List ℕ) (p q : ℕ) {c : Cursor} → p ≤ q → Faces w c (filter (startsFrom (suc p)) (setOf w .regions)) → Before w (suc q) c
-moved-before w p q l f = record { at = suc p; far = omega arith; faces = f }
-
-pub moved-on : (rs : List Region) (w : List ℕ) (p n : ℕ) (on : Cursor) → 0 < n → Moved rs w p on (ltb 0 n) on
-moved-on rs w p n on l = record { kept = λ e. refl; skipped = λ e. absurd (true≢false (sym (lt-yes 0 n l) ∙ e)) }
-
-pub moved-past : (rs : List Region) (w : List ℕ) (p q n : ℕ) (on c : Cursor) → n ≤ 0 → Clear rs p q → Faces w c (filter (startsFrom (suc q)) (setOf w .regions)) → Moved rs w p on (ltb 0 n) c
-moved-past rs w p q n on c l k s =
-    record { kept = λ e. absurd (true≢false (sym e ∙ lt-no 0 n l)); skipped = λ e. record { reach = q; clear = k; faces = s } }
 
 -- MORE OR NOT, AND WHAT IS TOLD
 pub more-room : (all : Bool) (n m : ℕ) → all ≡ false → ltb n m ≡ (all || ltb n m)

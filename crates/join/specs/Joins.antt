@@ -1,57 +1,12 @@
--- What the join answers, and what its steps do: where it begins, and how it comes to the next d.
+-- What the join answers.
 -- Assumes nothing.
-use Prim.Native.Nat.{ℕ, suc, _*_, _≤_, max}
+use Prim.Native.Nat.{ℕ}
 use mathlib.Core.Path.{_≡_}
-use mathlib.Core.Bool.{Bool, true, false, cond}
+use mathlib.Core.Bool.{Bool, cond}
 use mathlib.Core.List.{List}
 use lib.ListN.{length}
-use Rattle.words.specs.Lists.{filter, All}
-use Rattle.regions.specs.Sets.{of, startsFrom}
-use Rattle.regions.specs.Limits.{pairWidth, accountPositions}
+use Rattle.regions.specs.Limits.{pairWidth}
 use Rattle.regions.specs.Calls.{Pair, written, countWritten, pairWords}
-use Rattle.regions.specs.declared.Region.{Region}
-use Rattle.regions.specs.declared.Mark.{Mark}
-use Rattle.regions.specs.declared.Mark.the-variants.{Fresh, Last}
-use Rattle.image.specs.Read.{setOf}
-use Rattle.leaves.specs.declared.Cursor.{Cursor}
-use Rattle.leaves.specs.declared.Step.{Step}
-use Rattle.leaves.specs.declared.Step.the-variants.{Next, End}
-use Rattle.leaves.specs.Faces.{Faces}
-
--- WHERE IT BEGINS: at the account's first position, or at the marked d where that comes later
-abbrev pub lowest : ℕ → ℕ
-lowest a = a * accountPositions
-
-unfoldable pub firstPosition : ℕ → Mark → ℕ
-firstPosition a Fresh = lowest a
-firstPosition a (Last x y) = max (lowest a) y
-
--- a step to a region of the account; to that of another it is the end
-unfoldable pub ownStep : ℕ → Step → Step
-ownStep a End = End
-ownStep a (Next e c) = cond (of a (e .region)) (Next e c) End
-
--- a cursor at a place that is not behind y
-pub record Before (w : List ℕ) (y : ℕ) (c : Cursor) : Type 0 where
-  pub at : ℕ
-  pub far : at ≤ y
-  pub faces : Faces w c (filter (startsFrom at) (setOf w .regions))
-
--- THE NEXT d. No region starts at p or behind it and before q
-pub record Clear (rs : List Region) (p q : ℕ) : Type 0 where
-  pub far : p ≤ q
-  pub none : All (λ (r : Region). p ≤ r .start → q ≤ r .start) rs
-
--- a cursor past such a q
-pub record Skipped (rs : List Region) (w : List ℕ) (p : ℕ) (r : Cursor) : Type 0 where
-  pub reach : ℕ
-  pub clear : Clear rs p reach
-  pub faces : Faces w r (filter (startsFrom (suc reach)) (setOf w .regions))
-
--- the cursor on, or one that skips
-pub record Moved (rs : List Region) (w : List ℕ) (p : ℕ) (on : Cursor) (met : Bool) (r : Cursor) : Type 0 where
-  pub kept : met ≡ true → r ≡ on
-  pub skipped : met ≡ false → Skipped rs w p r
 
 -- WHAT IS ANSWERED: as many of the pairs qs as fit; their total, or how many those are
 pub record Joined (qs : List Pair) (all : Bool) (out out′ : List ℕ) (r : ℕ) : Type 0 where

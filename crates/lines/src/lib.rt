@@ -109,7 +109,7 @@ fn no_line() -> Line
 }
 
 // What stands behind a number of a line that so many others follow: a space, or the newline behind the last.
-fn break_behind(left: usize) -> u8
+pub fn break_behind(left: usize) -> u8
     ensures { λ r. ⌜ r ≡ breakBehind left ⌝ }
 {
     if left == 0 { 10 } else { 32 }

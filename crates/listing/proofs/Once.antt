@@ -7,7 +7,7 @@ use lib.Dec.{eqb}
 use Rattle.words.proofs.Tests.{by-test, eq-of, ne-of}
 use Rattle.regions.specs.Sets.{Set}
 use Rattle.image.specs.Read.{setOf}
-use Rattle.listing.specs.Form.{Reading, refused, read}
+use Rattle.form.specs.Form.{Reading, refused, read}
 use Rattle.listing.specs.Promise.{ReadsListing}
 
 -- two readings that are equal have read the same

@@ -15,9 +15,11 @@ use Rattle.regions.proofs.Done.{save-done}
 use Rattle.image.specs.Read.{setOf}
 use Rattle.image.specs.Valid.{valid}
 use Rattle.changes.specs.Changed.{SavesIn}
-use Rattle.listing.specs.Form.{regionAt, regionNo, savedLine}
-use Rattle.listing.specs.Steps.{lineFrom, Counted, RegionRead, Takes}
-use Rattle.listing.proofs.Counts.{count-room, counts-on}
+use Rattle.changes.specs.Counts.{Counted}
+use Rattle.changes.proofs.Counts.{count-room, counts-on}
+use Rattle.form.specs.Form.{regionAt, regionNo, savedLine}
+use Rattle.form.specs.Readers.{lineFrom, RegionRead}
+use Rattle.listing.specs.Steps.{Takes}
 
 module _ (text : List ℕ) (at : ℕ) (w : List ℕ) (r : Region) (next : ℕ) (v : T (valid w)) where
   pub takes-form : (ok : Bool) (held : List ℕ) (n m : ℕ) → ok ≡ false → RegionRead text at ok r next → n ≡ 12 → Takes text at w n m held w

@@ -9,19 +9,20 @@ use lib.ListN.{length, drop}
 use native.Mathlib.Omega.{arith}
 use Rattle.words.specs.Lists.{some}
 use Rattle.words.proofs.Tests.{by-test, T-of, of-T, eq-yes, eq-no, lt-yes, lt-no, and-false}
+use Rattle.words.proofs.Says.{some-drop}
+use Rattle.lines.specs.Text.{linesOf, pieces, inFront, isNewline}
 use Rattle.regions.specs.Numbers.{imageFirst, unless}
 use Rattle.regions.specs.Sets.{Set, emptySet}
 use Rattle.regions.specs.Calls.{openSetNo}
-use Rattle.regions.proofs.Extra.{some-drop}
-use Rattle.lines.specs.Text.{linesOf, pieces, inFront, isNewline}
 use Rattle.image.specs.Read.{setOf}
 use Rattle.image.specs.Valid.{valid}
+use Rattle.form.specs.Form.{Reading, refused, read, andThen, section, Shares, regionNo, savedLine, regionsAt, setAt, ended, innerAt, mostBytes, listingOf}
+use Rattle.form.specs.Steps.{placeAt, heard, SharesRead}
+use Rattle.form.proofs.Sections.{unless-done, unless-not}
 use Rattle.index.specs.Opening.{openNo, OpensSet}
 use Rattle.index.proofs.Empty.{opens-valid}
-use Rattle.listing.specs.Form.{Reading, refused, read, andThen, section, Shares, regionNo, savedLine, regionsAt, setAt, ended, innerAt, mostBytes, listingOf}
 use Rattle.listing.specs.Promise.{numberOf, lineOf, lent, ReadsListing}
-use Rattle.listing.specs.Steps.{placeAt, heard, SharesRead, RegionsRead, SetRead}
-use Rattle.listing.proofs.Sections.{unless-done, unless-not}
+use Rattle.listing.specs.Steps.{RegionsRead, SetRead}
 
 -- what was heard, taken further
 pub heard-no : {X : Type 0} (n l : ℕ) (x : X) → (n ≡ 0 → ⊥) → heard n l x ≡ refused n l

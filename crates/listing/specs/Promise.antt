@@ -10,7 +10,7 @@ use Rattle.regions.specs.Numbers.{imageFirst}
 use Rattle.pages.specs.Layout.{imageWords}
 use Rattle.image.specs.Read.{setOf}
 use Rattle.image.specs.Valid.{valid}
-use Rattle.listing.specs.Form.{Reading, refused, read, listingOf}
+use Rattle.form.specs.Form.{Reading, refused, read, listingOf}
 
 -- a reading's number, 0 where it was read, and its line
 unfoldable pub numberOf : {X : Type 0} → Reading X → ℕ

@@ -17,7 +17,7 @@ use Rattle.xrtree.specs.Rules.{linked}
 use Rattle.xrtree.specs.Claims.{Over, Fits}
 use Rattle.xrtree.specs.Local.{Here, Part}
 use Rattle.xrtree.specs.Holes.{Post, fillKids, fill}
-use Rattle.xrtree.proofs.Whole.{beforeKids, afterKids}
+use Rattle.xrtree.proofs.Holes.{beforeKids, afterKids}
 use Rattle.xrtree.specs.Holes.Post.{atKey, atEnd}
 use Rattle.pages.specs.Layout.{rootOf, heightOf, sharesOf, pageOf, markOf, recordOf, pageUsed, recordUsed}
 use Rattle.store.proofs.Kept.{page-used-same, record-used-same}

@@ -5,34 +5,35 @@ use mathlib.Core.Path.{_≡_, refl, sym, ap, ap₂, _∙_, subst}
 use mathlib.Core.Bool.{Bool}
 use mathlib.Core.List.{List, [], _∷_, _++_, append-assoc}
 use lib.Dec.{T}
-use lib.ListN.{length, getD, length-append}
+use lib.ListN.{length, length-append}
 use native.Mathlib.Omega.{arith}
 use Rattle.words.specs.Lists.{count, takeWhile, dropWhile}
 use Rattle.words.proofs.Tests.{and-left, and-right, and-both}
 use Rattle.words.proofs.Counted.{count-append}
 use Rattle.regions.specs.Positions.{stabs}
 use Rattle.regions.specs.declared.Region.{Region}
+use Rattle.pages.specs.Layout.{pageOf, fillOf, markOf, nextOf, childIn}
 use Rattle.xrtree.specs.Tree.{Key, Leaf, Inner, Tree, weave, listed, listRegions, listLeaves, listPages, listRecords, regions, leaves, allKids}
 use Rattle.xrtree.specs.Rules.{linked, filledBelow}
 use Rattle.xrtree.specs.Claims.{pageAt}
 use Rattle.xrtree.specs.Moves.{keyWith, movedPlaces, keptPlaces, sunk, leftOver, overPlaces}
 use Rattle.xrtree.specs.Local.{Part}
-use Rattle.pages.specs.Layout.{pageOf, fillOf, markOf, nextOf}
-use Rattle.holding.specs.Held.{KeysHeld, kidPlaces, EveryKid, placeOf, PageHeld, Held, keyRecords}
-use Rattle.standing.specs.Stands.{Roomy}
-use Rattle.standing.proofs.Counting.{place-once}
+use Rattle.store.specs.Store.{putPage, freePage}
 use Rattle.newpages.specs.Pages.{keysOf, childrenOf, IsInner}
+use Rattle.holding.specs.Held.{KeysHeld, kidPlaces, EveryKid, placeOf, PageHeld, Held, keyRecords}
 use Rattle.records.specs.Touched.{Touched}
 use Rattle.records.proofs.Marks.{touched-in, touched-then, uses-then}
+use Rattle.standing.specs.Stands.{Roomy}
+use Rattle.standing.proofs.Counting.{place-once}
 use Rattle.steps.specs.Steps.{PairAt, Merged}
-use Rattle.merge.specs.declared.Handed.{Handed}
-use Rattle.merge.specs.Moves.{nextTook, restList, restPlaces, Leaving, HandedOn, Sinking, Sank, InnersFit}
-use Rattle.merge.proofs.Keys.{keys-join, keys-touched, records-append}
-use Rattle.merge.proofs.Sinking.{count-cut}
+use Rattle.handing.specs.declared.Handed.{Handed}
+use Rattle.handing.specs.Moves.{nextTook, restList, restPlaces, Leaving, HandedOn, Sinking, Sank}
+use Rattle.handing.proofs.Keys.{keys-join, keys-touched, records-append}
+use Rattle.handing.proofs.Sinking.{count-cut}
+use Rattle.merge.specs.Moves.{InnersFit}
 use Rattle.merge.proofs.Stays.{every-pair}
 use Rattle.merge.proofs.Assemble.{pageThen, pageNow, Made, pair-listing, three, assemble}
 use Rattle.merge.proofs.Parts.{inner-part}
-use Rattle.store.specs.Store.{putPage, freePage}
 use Rattle.merge.proofs.Pairs.{stored, page-facts, part-back, leaving-pair, rest-fewer, took-same, took-records, above-made, left-is, right-is}
 
 -- KEYS THAT TOOK PARTS OF A LIST: the children are the same, the records in all
@@ -209,38 +210,39 @@ module _ {w : List ℕ} {h q j : ℕ} (s : PairAt w (suc h) q j) where
       }
 
 -- THE CALLEES of `inners`: both pages and the key fit into one
-pub inners-fit : {w : List ℕ} {q j : ℕ} → InnersFit w q j → {page a b : List ℕ} → page ≡ pageOf w q → a ≡ pageOf w (getD page (39 + j) 0) → b ≡ pageOf w (getD page (39 + (j + 1)) 0) → fillOf a + fillOf b ≤ 8
-inners-fit {w} f e ea eb =
+pub inners-fit : {w : List ℕ} {q j : ℕ} → InnersFit w q j → {page a b : List ℕ} {left right : ℕ} → page ≡ pageOf w q
+    → left ≡ childIn page j → right ≡ childIn page (j + 1) → a ≡ pageOf w left → b ≡ pageOf w right → fillOf a + fillOf b ≤ 8
+inners-fit {w} f e el er ea eb =
     let s = f .pair in
-    omega (arith, f .fit, ap fillOf (ea ∙ ap (pageOf w) (left-is s e)), ap fillOf (eb ∙ ap (pageOf w) (right-is s e)), inner-left s, inner-right s)
+    omega (arith, f .fit, ap fillOf (ea ∙ ap (pageOf w) (left-is s e el)), ap fillOf (eb ∙ ap (pageOf w) (right-is s e er)), inner-left s, inner-right s)
 
 -- what `sink` asks for, at the page as it was loaded
-pub few-left : {w : List ℕ} {h q j : ℕ} (s : PairAt w (suc h) q j) {page a : List ℕ} → page ≡ pageOf w q → a ≡ pageOf w (getD page (39 + j) 0) → fillOf a ≤ 9
-few-left {w} s e ea = omega (arith, ap fillOf (ea ∙ ap (pageOf w) (left-is s e)), inner-left-room s)
+pub few-left : {w : List ℕ} {h q j : ℕ} (s : PairAt w (suc h) q j) {page a : List ℕ} {left : ℕ} → page ≡ pageOf w q → left ≡ childIn page j → a ≡ pageOf w left → fillOf a ≤ 9
+few-left {w} s e el ea = omega (arith, ap fillOf (ea ∙ ap (pageOf w) (left-is s e el)), inner-left-room s)
 
-pub sinking-loaded : {w w₁ : List ℕ} {h q j : ℕ} (s : PairAt w (suc h) q j) {page a : List ℕ} {r : Handed} → page ≡ pageOf w q → a ≡ pageOf w (getD page (39 + j) 0)
+pub sinking-loaded : {w w₁ : List ℕ} {h q j : ℕ} (s : PairAt w (suc h) q j) {page a : List ℕ} {left : ℕ} {r : Handed} → page ≡ pageOf w q → left ≡ childIn page j → a ≡ pageOf w left
     → ((s : Leaving w page j) → HandedOn w w₁ page j s r) → Sinking w₁ a (r .rest)
-sinking-loaded {w} {w₁} {j = j} s {r = r} e ea g =
-    subst (λ v. Sinking w₁ v (r .rest)) (sym (ea ∙ ap (pageOf w) (left-is s e))) (sinking-pair s (subst (λ ws. (s : Leaving w ws j) → HandedOn w w₁ ws j s r) e g (leaving-pair s)))
+sinking-loaded {w} {w₁} {j = j} s {r = r} e el ea g =
+    subst (λ v. Sinking w₁ v (r .rest)) (sym (ea ∙ ap (pageOf w) (left-is s e el))) (sinking-pair s (subst (λ ws. (s : Leaving w ws j) → HandedOn w w₁ ws j s r) e g (leaving-pair s)))
 
-pub inners-law : (w w₁ w₂ w₅ page a b joined : List ℕ) (q j : ℕ) (r low : Handed) → InnersFit w q j
-    → page ≡ pageOf w q → a ≡ pageOf w (getD page (39 + j) 0) → b ≡ pageOf w (getD page (39 + (j + 1)) 0)
+pub inners-law : (w w₁ w₂ w₅ page a b joined : List ℕ) (q j left right : ℕ) (r low : Handed) → InnersFit w q j
+    → page ≡ pageOf w q → left ≡ childIn page j → right ≡ childIn page (j + 1) → a ≡ pageOf w left → b ≡ pageOf w right
     → ((s : Leaving w page j) → HandedOn w w₁ page j s r)
     → ((s : Sinking w₁ a (r .rest)) → Sank w₁ w₂ a (r .rest) s low)
     → IsInner joined (markOf (low .page)) (suc (fillOf (low .page) + fillOf b)) (nextOf (low .page)) (keysOf (low .page) ++ low .rest ∷ keysOf b) (childrenOf (low .page) ++ childrenOf b)
     → length w₂ ≡ 12288 → length joined ≡ 57
-    → w₅ ≡ freePage (putPage (putPage w₂ (getD page (39 + j) 0) joined) q (r .page)) (getD page (39 + (j + 1)) 0)
+    → w₅ ≡ freePage (putPage (putPage w₂ left joined) q (r .page)) right
     → (h : ℕ) (s : PairAt w (suc h) q j) → Merged w w₅ (suc h) q j s
-inners-law w w₁ w₂ w₅ page a b joined q j r low f e ea eb g k i l n e₅ h s =
-    let x = left-is s e in
-    let y = right-is s e in
+inners-law w w₁ w₂ w₅ page a b joined q j left right r low f e el er ea eb g k i l n e₅ h s =
+    let x = left-is s e el in
+    let y = right-is s e er in
     let a′ : a ≡ pageOf w (s .left .place) = ea ∙ ap (pageOf w) x in
     let b′ : b ≡ pageOf w (s .right .place) = eb ∙ ap (pageOf w) y in
     let m = subst (λ ws. (s : Leaving w ws j) → HandedOn w w₁ ws j s r) e g (leaving-pair s) in
     let t = three s in
     let made = inner-made s w₁ w₂ joined r low m
     (subst (λ v. (s : Sinking w₁ v (r .rest)) → Sank w₁ w₂ v (r .rest) s low) a′ k (sinking-pair s m))
-    (subst (λ v. fillOf (pageOf w (s .left .place)) + fillOf v ≤ 8) b′ (subst (λ v. fillOf v + fillOf b ≤ 8) a′ (inners-fit f e ea eb)))
+    (subst (λ v. fillOf (pageOf w (s .left .place)) + fillOf v ≤ 8) b′ (subst (λ v. fillOf v + fillOf b ≤ 8) a′ (inners-fit f e el er ea eb)))
     (subst (λ v. IsInner joined (markOf (low .page)) (suc (fillOf (low .page) + fillOf v)) (nextOf (low .page)) (keysOf (low .page) ++ low .rest ∷ keysOf v) (childrenOf (low .page) ++ childrenOf v)) b′ i) in
     assemble made
     (stored w₂ w₅ (s .left .place) q (s .right .place) joined (r .page) l n (m .long) (t .left-low) (t .left-high) (t .above-low) (t .above-high) (t .right-low) (t .right-high)

@@ -4,35 +4,36 @@ use Prim.Native.Nat.{ℕ, _+_, _≤_}
 use mathlib.Core.Path.{_≡_, refl, sym, ap, ap₂, _∙_, subst}
 use mathlib.Core.List.{List, _++_, map}
 use lib.Dec.{T}
-use lib.ListN.{length, getD, length-append, length-map}
+use lib.ListN.{length, length-append, length-map}
 use native.Mathlib.Omega.{arith}
 use Rattle.words.specs.Lists.{count}
 use Rattle.words.proofs.Listed.{map-append}
 use Rattle.words.proofs.Counted.{count-append}
 use Rattle.regions.specs.declared.Region.{Region}
+use Rattle.pages.specs.Layout.{pageOf, fillOf, markOf, nextOf, childIn}
 use Rattle.xrtree.specs.Tree.{Leaf, listed, regionOf, regions, leaves}
 use Rattle.xrtree.specs.Rules.{linked}
 use Rattle.xrtree.specs.Claims.{leafAt}
 use Rattle.xrtree.specs.Local.{Part}
 use Rattle.xrtree.specs.Moves.{clear}
 use Rattle.xrtree.proofs.Merge.{regions-clear}
-use Rattle.pages.specs.Layout.{pageOf, fillOf, markOf, nextOf}
 use Rattle.image.specs.Read.{recordRegion}
-use Rattle.holding.specs.Held.{Chain, LeafHeld, Held}
-use Rattle.standing.specs.Stands.{top}
+use Rattle.store.specs.Store.{putPage, freePage}
 use Rattle.newpages.specs.Pages.{entriesOf, sparesOf, IsLeaf}
+use Rattle.holding.specs.Held.{Chain, LeafHeld, Held}
 use Rattle.records.specs.Touched.{AllUsed}
 use Rattle.records.specs.Kept.{Dropped}
 use Rattle.records.proofs.Chains.{places-are}
 use Rattle.records.proofs.Marks.{touched-in, touched-then, uses-then}
+use Rattle.standing.specs.Stands.{top}
 use Rattle.steps.specs.Steps.{PairAt, Merged}
-use Rattle.merge.specs.declared.Handed.{Handed}
-use Rattle.merge.specs.Moves.{nextTook, restList, restPlaces, Leaving, HandedOn, LeavesFit}
+use Rattle.handing.specs.declared.Handed.{Handed}
+use Rattle.handing.specs.Moves.{nextTook, restList, restPlaces, Leaving, HandedOn}
+use Rattle.handing.proofs.Clearing.{listAt, entries-long}
+use Rattle.merge.specs.Moves.{LeavesFit}
 use Rattle.merge.proofs.Stays.{every-pair, linked-one}
 use Rattle.merge.proofs.Assemble.{pageThen, pageNow, Made, three, assemble}
 use Rattle.merge.proofs.Parts.{leaf-part}
-use Rattle.merge.proofs.Clearing.{listAt, entries-long}
-use Rattle.store.specs.Store.{putPage, freePage}
 use Rattle.merge.proofs.Pairs.{stored, page-facts, part-back, leaving-pair, rest-used, rest-fewer, took-same, took-records, above-made, left-is, right-is}
 
 module _ {w : List ℕ} {q j : ℕ} (s : PairAt w 0 q j) where
@@ -109,29 +110,30 @@ module _ {w : List ℕ} {q j : ℕ} (s : PairAt w 0 q j) where
       count-both x = count-append x (s .key .places) (restPlaces (s .post) (s .key))
 
 -- THE CALLEES of `leaves`: both leaves fit into one
-pub leaves-fit : {w : List ℕ} {q j : ℕ} → LeavesFit w q j → {page a b : List ℕ} → page ≡ pageOf w q → a ≡ pageOf w (getD page (39 + j) 0) → b ≡ pageOf w (getD page (39 + (j + 1)) 0) → fillOf a + fillOf b ≤ 9
-leaves-fit {w} f e ea eb =
+pub leaves-fit : {w : List ℕ} {q j : ℕ} → LeavesFit w q j → {page a b : List ℕ} {left right : ℕ} → page ≡ pageOf w q
+    → left ≡ childIn page j → right ≡ childIn page (j + 1) → a ≡ pageOf w left → b ≡ pageOf w right → fillOf a + fillOf b ≤ 9
+leaves-fit {w} f e el er ea eb =
     let s = f .pair in
-    omega (arith, f .fit, ap fillOf (ea ∙ ap (pageOf w) (left-is s e)), ap fillOf (eb ∙ ap (pageOf w) (right-is s e)), fill-left s, fill-right s)
+    omega (arith, f .fit, ap fillOf (ea ∙ ap (pageOf w) (left-is s e el)), ap fillOf (eb ∙ ap (pageOf w) (right-is s e er)), fill-left s, fill-right s)
 
-pub leaves-law : (w w₁ w₂ w₅ page a b joined leaf : List ℕ) (q j : ℕ) (r : Handed) → LeavesFit w q j
-    → page ≡ pageOf w q → a ≡ pageOf w (getD page (39 + j) 0) → b ≡ pageOf w (getD page (39 + (j + 1)) 0)
+pub leaves-law : (w w₁ w₂ w₅ page a b joined leaf : List ℕ) (q j left right : ℕ) (r : Handed) → LeavesFit w q j
+    → page ≡ pageOf w q → left ≡ childIn page j → right ≡ childIn page (j + 1) → a ≡ pageOf w left → b ≡ pageOf w right
     → IsLeaf joined (markOf a) (fillOf a + fillOf b) (nextOf b) (entriesOf a ++ entriesOf b) (sparesOf a ++ sparesOf b)
     → ((s : Leaving w page j) → HandedOn w w₁ page j s r)
     → IsLeaf leaf (markOf joined) (fillOf joined) (nextOf joined) (map (clear (listAt w₁ (r .rest .head))) (entriesOf joined)) (sparesOf joined)
     → ((qs : List ℕ) → Chain w₁ (r .rest .head) qs → AllUsed w₁ qs → Dropped w₁ w₂ qs)
     → length w₂ ≡ 12288 → length leaf ≡ 57
-    → w₅ ≡ freePage (putPage (putPage w₂ (getD page (39 + j) 0) leaf) q (r .page)) (getD page (39 + (j + 1)) 0)
+    → w₅ ≡ freePage (putPage (putPage w₂ left leaf) q (r .page)) right
     → (s : PairAt w 0 q j) → Merged w w₅ 0 q j s
-leaves-law w w₁ w₂ w₅ page a b joined leaf q j r f e ea eb i g k d l n e₅ s =
-    let x = left-is s e in
-    let y = right-is s e in
+leaves-law w w₁ w₂ w₅ page a b joined leaf q j left right r f e el er ea eb i g k d l n e₅ s =
+    let x = left-is s e el in
+    let y = right-is s e er in
     let a′ : a ≡ pageOf w (s .left .place) = ea ∙ ap (pageOf w) x in
     let b′ : b ≡ pageOf w (s .right .place) = eb ∙ ap (pageOf w) y in
     let m = subst (λ ws. (s : Leaving w ws j) → HandedOn w w₁ ws j s r) e g (leaving-pair s) in
     let t = three s in
     let made = leaf-made s w₁ w₂ joined leaf r m
-    (subst (λ v. fillOf (pageOf w (s .left .place)) + fillOf v ≤ 9) b′ (subst (λ v. fillOf v + fillOf b ≤ 9) a′ (leaves-fit f e ea eb)))
+    (subst (λ v. fillOf (pageOf w (s .left .place)) + fillOf v ≤ 9) b′ (subst (λ v. fillOf v + fillOf b ≤ 9) a′ (leaves-fit f e el er ea eb)))
     (subst (λ v. IsLeaf joined (markOf (pageOf w (s .left .place))) (fillOf (pageOf w (s .left .place)) + fillOf v) (nextOf v) (entriesOf (pageOf w (s .left .place)) ++ entriesOf v) (sparesOf (pageOf w (s .left .place)) ++ sparesOf v)) b′
     (subst (λ v. IsLeaf joined (markOf v) (fillOf v + fillOf b) (nextOf b) (entriesOf v ++ entriesOf b) (sparesOf v ++ sparesOf b)) a′ i)) k d in
     assemble made

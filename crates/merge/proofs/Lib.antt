@@ -1,11 +1,7 @@
-pub mod Keys
 pub mod Listed
 pub mod Stays
 pub mod Assemble
 pub mod Parts
-pub mod Handing
-pub mod Sinking
-pub mod Clearing
 pub mod Pairs
 pub mod LeafMerge
 pub mod InnerMerge

@@ -18,8 +18,8 @@ use Rattle.xrtree.specs.Local.{Here, Part, FirstIs}
 use Rattle.xrtree.proofs.Here.{here-all}
 use Rattle.xrtree.specs.Moves.{movedPlaces}
 use Rattle.xrtree.specs.Holes.{Post, fillKids, fillLast}
-use Rattle.xrtree.proofs.Whole.{beforeKids, afterKids}
-use Rattle.xrtree.proofs.Ops.{Facts}
+use Rattle.xrtree.proofs.Holes.{beforeKids, afterKids}
+use Rattle.xrtree.proofs.Split.{Facts}
 use Rattle.xrtree.specs.Holes.Post.{atKey, atEnd}
 use Rattle.pages.specs.Layout.{pageOf, fillOf, childIn, recordUsed}
 use Rattle.holding.specs.Held.{kidPlaces, placeOf, PageHeld, keyRecords}
@@ -33,10 +33,10 @@ use Rattle.records.specs.Touched.{Touched, Uses, AllUsed, Ends}
 use Rattle.steps.specs.Steps.{SameKey, rekeyed, PairAt, nextPlaces}
 use Rattle.steps.proofs.Listed.{pair-listed, regions-keyless}
 use Rattle.steps.proofs.Stays.{records-parts}
-use Rattle.merge.specs.declared.Handed.{Handed}
-use Rattle.merge.specs.Moves.{nextTook, restPlaces, Leaving, HandedOn}
-use Rattle.merge.proofs.Keys.{kids-more, keys-touched, records-append}
-use Rattle.merge.proofs.Sinking.{count-cut}
+use Rattle.handing.specs.declared.Handed.{Handed}
+use Rattle.handing.specs.Moves.{nextTook, restPlaces, Leaving, HandedOn}
+use Rattle.handing.proofs.Keys.{kids-more, keys-touched, records-append}
+use Rattle.handing.proofs.Sinking.{count-cut}
 use Rattle.merge.proofs.Listed.{joined-listed}
 use Rattle.merge.proofs.Parts.{part-among}
 use Rattle.merge.proofs.Assemble.{pageThen, pageNow, three, Stored, pair-listing}
@@ -247,38 +247,36 @@ module _ {w : List ℕ} {h q j : ℕ} (s : PairAt w h q j) where
       }
 
 -- A PAGE LOADED, with the two children that it names
-pub record Loaded (w page : List ℕ) (q j : ℕ) : Type 0 where
+pub record Loaded (w page : List ℕ) (q j left right : ℕ) : Type 0 where
   pub long : length w ≡ 12288
   pub above-low : 1 ≤ q
   pub above-high : q ≤ 160
-  pub left-low : 1 ≤ getD page (39 + j) 0
-  pub left-high : getD page (39 + j) 0 ≤ 160
-  pub right-low : 1 ≤ getD page (39 + (j + 1)) 0
-  pub right-high : getD page (39 + (j + 1)) 0 ≤ 160
+  pub left-low : 1 ≤ left
+  pub left-high : left ≤ 160
+  pub right-low : 1 ≤ right
+  pub right-high : right ≤ 160
   pub few : fillOf page ≤ 9
-  pub index : j < 9
   pub leaving : Leaving w page j
 
 module _ {w : List ℕ} {h q j : ℕ} (s : PairAt w h q j) {page : List ℕ} (e : page ≡ pageOf w q) where
-  pub left-is : getD page (39 + j) 0 ≡ placeOf h (s .left)
-  left-is = ap (λ ws. childIn ws j) e ∙ pair-left s
+  pub left-is : {left : ℕ} → left ≡ childIn page j → left ≡ placeOf h (s .left)
+  left-is l = l ∙ ap (λ ws. childIn ws j) e ∙ pair-left s
 
-  pub right-is : getD page (39 + (j + 1)) 0 ≡ placeOf h (s .right)
-  right-is = ap (λ ws. childIn ws (j + 1)) e ∙ ap (childIn (pageOf w q)) (add-one j) ∙ pair-right s
+  pub right-is : {right : ℕ} → right ≡ childIn page (j + 1) → right ≡ placeOf h (s .right)
+  right-is r = r ∙ ap (λ ws. childIn ws (j + 1)) e ∙ ap (childIn (pageOf w q)) (add-one j) ∙ pair-right s
 
-  pub loaded : Loaded w page q j
-  loaded =
+  pub loaded : {left right : ℕ} → left ≡ childIn page j → right ≡ childIn page (j + 1) → Loaded w page q j left right
+  loaded l r =
       let t = three s in
       record {
         long = s .stands .long;
         above-low = t .above-low;
         above-high = t .above-high;
-        left-low = omega (arith, t .left-low, left-is);
-        left-high = omega (arith, t .left-high, left-is);
-        right-low = omega (arith, t .right-low, right-is);
-        right-high = omega (arith, t .right-high, right-is);
+        left-low = omega (arith, t .left-low, left-is l);
+        left-high = omega (arith, t .left-high, left-is l);
+        right-low = omega (arith, t .right-low, right-is r);
+        right-high = omega (arith, t .right-high, right-is r);
         few = omega (arith, ap fillOf e, pair-fill s);
-        index = omega (arith, pair-fill s, pair-index s);
         leaving = subst (λ ws. Leaving w ws j) (sym e) (leaving-pair s);
       }
 

@@ -14,11 +14,10 @@ use Rattle.xrtree.proofs.Here.{here-left, here-next, starts-weave, local-near}
 use Rattle.xrtree.specs.Holes.{loAfter, Post, fillKids, fillLast, fill}
 use Rattle.xrtree.specs.Moves.{keyWith, sunk, leftOver, clear}
 use Rattle.xrtree.specs.Holes.Post.{atKey, atEnd}
-use Rattle.xrtree.proofs.Split.{part-at}
+use Rattle.xrtree.proofs.Split.{part-at, Facts}
 use Rattle.xrtree.proofs.Merge.{all-unmap, leaf-merge-mid, leaf-merge-last, inner-merge-mid, inner-merge-last}
-use Rattle.xrtree.proofs.Ops.{Facts}
 use Rattle.steps.specs.Steps.{rekeyed}
-use Rattle.merge.specs.Moves.{nextTook, restList}
+use Rattle.handing.specs.Moves.{nextTook, restList}
 
 -- A PART OF ONE SET IS A PART OF ANOTHER that has the same regions there
 pub part-among : (rs rs′ : List Region) (h lo hi : ℕ) (t : Tree h) → Here rs lo hi (regions h t) → Here rs′ lo hi (regions h t) → Pairs Over (regions h t) → Part rs h lo hi t → Part rs′ h lo hi t

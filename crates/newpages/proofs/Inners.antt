@@ -43,12 +43,12 @@ module _ (ws : List ℕ) (long : length ws ≡ 57) where
   pub inner-with-is : (i n m : ℕ) (k : KeyWords) (child : ℕ) → n ≡ fillOf ws → fillOf ws ≤ 8 → i ≤ fillOf ws → m ≡ suc (fillOf ws)
       → IsInner
       (headedBy
-      (copiedIn (set (copiedIn (sets ws (3 + 4 * i) (keyList k)) (3 + 4 * i + 4) ws (3 + 4 * i) (4 * (n - i))) (40 + i) child) (41 + i) ws (40 + i) (n - i))
+      (copiedIn (set (copiedIn (sets ws (3 + 4 * i) (keyList k)) (3 + 4 * i + 4) ws (3 + 4 * i) (4 * (n - i))) (childWord (i + 1)) child) (childWord (i + 1) + 1) ws (childWord (i + 1)) (n - i))
       (markOf ws) m (nextOf ws))
       (markOf ws) (suc (fillOf ws)) (nextOf ws) (putIn i k (keysOf ws)) (putIn (suc i) child (childrenOf ws))
   inner-with-is i n m k child e f h g =
       rw g
-      (headed-inner u (markOf ws) (suc (fillOf ws)) (nextOf ws) _ _ (omega (arith, copy-long both (41 + i) ws (40 + i) (n - i), both-long))
+      (headed-inner u (markOf ws) (suc (fillOf ws)) (nextOf ws) _ _ (omega (arith, copy-long both (childWord (i + 1) + 1) ws (childWord (i + 1)) (n - i), both-long))
       (items-in 4 keyWord key-step keyWordsAt key-reads r ws i (fillOf ws) k h keys-before (key-is i k key-here) keys-behind ∙ ap (putIn i k) (sym (keys-up ws 0 (fillOf ws))))
       (items-in 1 childWord child-step childIn child-reads r ws (suc i) (suc (fillOf ws)) child (omega arith) children-before (first-word child-here (omega arith)) children-behind
       ∙ ap (putIn (suc i) child) (sym (children-up ws 0 (suc (fillOf ws))))))
@@ -60,10 +60,10 @@ module _ (ws : List ℕ) (long : length ws ≡ 57) where
       keyed = copiedIn put (3 + 4 * i + 4) ws (3 + 4 * i) (4 * (n - i))
 
       both : List ℕ
-      both = sets keyed (40 + i) (child ∷ [])
+      both = sets keyed (childWord (i + 1)) (child ∷ [])
 
       u : List ℕ
-      u = copiedIn both (41 + i) ws (40 + i) (n - i)
+      u = copiedIn both (childWord (i + 1) + 1) ws (childWord (i + 1)) (n - i)
 
       r : List ℕ
       r = headedBy u (markOf ws) (suc (fillOf ws)) (nextOf ws)
@@ -75,14 +75,14 @@ module _ (ws : List ℕ) (long : length ws ≡ 57) where
       keyed-long = copy-long put (3 + 4 * i + 4) ws (3 + 4 * i) (4 * (n - i)) ∙ put-long
 
       both-long : length both ≡ length ws
-      both-long = length-sets keyed (40 + i) (child ∷ []) ∙ keyed-long
+      both-long = length-sets keyed (childWord (i + 1)) (child ∷ []) ∙ keyed-long
 
       -- words before the copied children; before the new child; those of the page that neither keys nor the new child touch
-      from-both : {v : List ℕ} {s t l : ℕ} → 3 ≤ s → s + l ≤ 41 + i → Seg both s v t l → Seg r s v t l
-      from-both a b q = head-above u (markOf ws) (suc (fillOf ws)) (nextOf ws) a (copy-below both (41 + i) ws (40 + i) (n - i) b q)
+      from-both : {v : List ℕ} {s t l : ℕ} → 3 ≤ s → s + l ≤ childWord (i + 1) + 1 → Seg both s v t l → Seg r s v t l
+      from-both a b q = head-above u (markOf ws) (suc (fillOf ws)) (nextOf ws) a (copy-below both (childWord (i + 1) + 1) ws (childWord (i + 1)) (n - i) b q)
 
-      from-keyed : {v : List ℕ} {s t l : ℕ} → 3 ≤ s → s + l ≤ 40 + i → Seg keyed s v t l → Seg r s v t l
-      from-keyed a b q = from-both a (omega arith) (seg-below (40 + i) (child ∷ []) b q)
+      from-keyed : {v : List ℕ} {s t l : ℕ} → 3 ≤ s → s + l ≤ childWord (i + 1) → Seg keyed s v t l → Seg r s v t l
+      from-keyed a b q = from-both a (omega arith) (seg-below (childWord (i + 1)) (child ∷ []) b q)
 
       keys-before : Seg r 3 ws 3 (4 * i)
       keys-before =
@@ -106,20 +106,20 @@ module _ (ws : List ℕ) (long : length ws ≡ 57) where
           (copy-above put (3 + 4 * i + 4) ws (3 + 4 * i) (4 * (n - i)) (omega arith) (omega arith) (seg-above (3 + 4 * i) (keyList k) (omega arith) (seg-self ws 39 (1 * suc i))))
 
       child-here : Seg r (childWord (suc i)) (child ∷ []) 0 1
-      child-here = let z : childWord (suc i) ≡ 40 + i = omega arith in rw z (from-both (omega arith) (omega arith) (seg-in keyed (40 + i) (child ∷ []) (omega (arith, keyed-long))))
+      child-here = let z : childWord (suc i) ≡ childWord (i + 1) = omega arith in rw z (from-both (omega arith) (omega arith) (seg-in keyed (childWord (i + 1)) (child ∷ []) (omega (arith, keyed-long))))
 
       children-behind : Seg r (childWord (suc (suc i))) ws (childWord (suc i)) (1 * (suc (fillOf ws) - suc i))
       children-behind =
           head-above u (markOf ws) (suc (fillOf ws)) (nextOf ws) (omega arith)
-          (copy-in both (41 + i) ws (40 + i) (n - i) (childWord (suc (suc i))) (childWord (suc i)) (1 * (suc (fillOf ws) - suc i)) (omega arith) (omega (arith, both-long)) (omega arith)
+          (copy-in both (childWord (i + 1) + 1) ws (childWord (i + 1)) (n - i) (childWord (suc (suc i))) (childWord (suc i)) (1 * (suc (fillOf ws) - suc i)) (omega arith) (omega (arith, both-long)) (omega arith)
           (omega arith) (omega arith))
 
   pub inner-without-is : (i m l : ℕ) → m ≡ fillOf ws - suc i → fillOf ws ≤ 9 → i < fillOf ws → l ≡ fillOf ws - 1
-      → IsInner (headedBy (copiedIn (copiedIn ws (3 + 4 * i) ws (3 + 4 * i + 4) (4 * m)) (40 + i) ws (41 + i) m) (markOf ws) l (nextOf ws))
+      → IsInner (headedBy (copiedIn (copiedIn ws (3 + 4 * i) ws (3 + 4 * i + 4) (4 * m)) (childWord (i + 1)) ws (childWord (i + 1) + 1) m) (markOf ws) l (nextOf ws))
       (markOf ws) (fillOf ws - 1) (nextOf ws) (takenOut i (keysOf ws)) (takenOut (suc i) (childrenOf ws))
   inner-without-is i m l e f h g =
       rw g
-      (headed-inner u (markOf ws) (fillOf ws - 1) (nextOf ws) _ _ (omega (arith, copy-long keyed (40 + i) ws (41 + i) m, keyed-long))
+      (headed-inner u (markOf ws) (fillOf ws - 1) (nextOf ws) _ _ (omega (arith, copy-long keyed (childWord (i + 1)) ws (childWord (i + 1) + 1) m, keyed-long))
       (items-out 4 keyWord key-step keyWordsAt key-reads r ws i (fillOf ws) h keys-before keys-behind ∙ ap (takenOut i) (sym (keys-up ws 0 (fillOf ws))))
       (same-up (childIn r) (suc (fillOf ws - 1)) (suc (fillOf ws) - 1) (omega arith)
       ∙ items-out 1 childWord child-step childIn child-reads r ws (suc i) (suc (fillOf ws)) (omega arith) children-before children-behind
@@ -129,7 +129,7 @@ module _ (ws : List ℕ) (long : length ws ≡ 57) where
       keyed = copiedIn ws (3 + 4 * i) ws (3 + 4 * i + 4) (4 * m)
 
       u : List ℕ
-      u = copiedIn keyed (40 + i) ws (41 + i) m
+      u = copiedIn keyed (childWord (i + 1)) ws (childWord (i + 1) + 1) m
 
       r : List ℕ
       r = headedBy u (markOf ws) (fillOf ws - 1) (nextOf ws)
@@ -137,8 +137,8 @@ module _ (ws : List ℕ) (long : length ws ≡ 57) where
       keyed-long : length keyed ≡ length ws
       keyed-long = copy-long ws (3 + 4 * i) ws (3 + 4 * i + 4) (4 * m)
 
-      from-keyed : {v : List ℕ} {s t l : ℕ} → 3 ≤ s → s + l ≤ 40 + i → Seg keyed s v t l → Seg r s v t l
-      from-keyed a b q = head-above u (markOf ws) (fillOf ws - 1) (nextOf ws) a (copy-below keyed (40 + i) ws (41 + i) m b q)
+      from-keyed : {v : List ℕ} {s t l : ℕ} → 3 ≤ s → s + l ≤ childWord (i + 1) → Seg keyed s v t l → Seg r s v t l
+      from-keyed a b q = head-above u (markOf ws) (fillOf ws - 1) (nextOf ws) a (copy-below keyed (childWord (i + 1)) ws (childWord (i + 1) + 1) m b q)
 
       keys-before : Seg r 3 ws 3 (4 * i)
       keys-before = from-keyed (omega arith) (omega arith) (copy-below ws (3 + 4 * i) ws (3 + 4 * i + 4) (4 * m) (omega arith) (seg-self ws 3 (4 * i)))
@@ -155,7 +155,7 @@ module _ (ws : List ℕ) (long : length ws ≡ 57) where
       children-behind : Seg r (childWord (suc i)) ws (childWord (suc (suc i))) (1 * (suc (fillOf ws) - suc (suc i)))
       children-behind =
           head-above u (markOf ws) (fillOf ws - 1) (nextOf ws) (omega arith)
-          (copy-in keyed (40 + i) ws (41 + i) m (childWord (suc i)) (childWord (suc (suc i))) (1 * (suc (fillOf ws) - suc (suc i))) (omega arith) (omega (arith, keyed-long)) (omega arith)
+          (copy-in keyed (childWord (i + 1)) ws (childWord (i + 1) + 1) m (childWord (suc i)) (childWord (suc (suc i))) (1 * (suc (fillOf ws) - suc (suc i))) (omega arith) (omega (arith, keyed-long)) (omega arith)
           (omega arith) (omega arith))
 
   pub inner-left-is : (c : ℕ) → c ≤ fillOf ws
@@ -171,11 +171,11 @@ module _ (ws : List ℕ) (long : length ws ≡ 57) where
       r = headedBy ws (markOf ws) c (nextOf ws)
 
   pub inner-right-is : (c m : ℕ) → m ≡ fillOf ws - suc c → fillOf ws ≤ 9 → c < fillOf ws
-      → IsInner (headedBy (copiedIn (copiedIn ws 3 ws (3 + 4 * (c + 1)) (4 * m)) 39 ws (40 + c) (m + 1)) 1 m (nextOf ws))
+      → IsInner (headedBy (copiedIn (copiedIn ws 3 ws (3 + 4 * (c + 1)) (4 * m)) 39 ws (childWord (c + 1)) (m + 1)) 1 m (nextOf ws))
       1 (fillOf ws - suc c) (nextOf ws) (drop (suc c) (keysOf ws)) (drop (suc c) (childrenOf ws))
   inner-right-is c m e f h =
       rw e
-      (headed-inner u 1 (fillOf ws - suc c) (nextOf ws) _ _ (omega (arith, copy-long keyed 39 ws (40 + c) (fillOf ws - suc c + 1), keyed-long))
+      (headed-inner u 1 (fillOf ws - suc c) (nextOf ws) _ _ (omega (arith, copy-long keyed 39 ws (childWord (c + 1)) (fillOf ws - suc c + 1), keyed-long))
       (items-right 4 keyWord key-step keyWordsAt key-reads r ws (suc c) (fillOf ws) (omega arith) keys-moved ∙ ap (drop (suc c)) (sym (keys-up ws 0 (fillOf ws))))
       (same-up (childIn r) (suc (fillOf ws - suc c)) (suc (fillOf ws) - suc c) (omega arith)
       ∙ items-right 1 childWord child-step childIn child-reads r ws (suc c) (suc (fillOf ws)) (omega arith) children-moved
@@ -185,7 +185,7 @@ module _ (ws : List ℕ) (long : length ws ≡ 57) where
       keyed = copiedIn ws 3 ws (3 + 4 * (c + 1)) (4 * (fillOf ws - suc c))
 
       u : List ℕ
-      u = copiedIn keyed 39 ws (40 + c) (fillOf ws - suc c + 1)
+      u = copiedIn keyed 39 ws (childWord (c + 1)) (fillOf ws - suc c + 1)
 
       r : List ℕ
       r = headedBy u 1 (fillOf ws - suc c) (nextOf ws)
@@ -196,13 +196,13 @@ module _ (ws : List ℕ) (long : length ws ≡ 57) where
       keys-moved : Seg r 3 ws (keyWord (suc c)) (4 * (fillOf ws - suc c))
       keys-moved =
           head-above u 1 (fillOf ws - suc c) (nextOf ws) (omega arith)
-          (copy-below keyed 39 ws (40 + c) (fillOf ws - suc c + 1) (omega arith)
+          (copy-below keyed 39 ws (childWord (c + 1)) (fillOf ws - suc c + 1) (omega arith)
           (copy-in ws 3 ws (3 + 4 * (c + 1)) (4 * (fillOf ws - suc c)) 3 (keyWord (suc c)) (4 * (fillOf ws - suc c)) (omega arith) (omega arith) (omega arith) (omega arith) (omega arith)))
 
       children-moved : Seg r 39 ws (childWord (suc c)) (1 * (suc (fillOf ws) - suc c))
       children-moved =
           head-above u 1 (fillOf ws - suc c) (nextOf ws) (omega arith)
-          (copy-in keyed 39 ws (40 + c) (fillOf ws - suc c + 1) 39 (childWord (suc c)) (1 * (suc (fillOf ws) - suc c)) (omega arith) (omega (arith, keyed-long)) (omega arith) (omega arith)
+          (copy-in keyed 39 ws (childWord (c + 1)) (fillOf ws - suc c + 1) 39 (childWord (suc c)) (1 * (suc (fillOf ws) - suc c)) (omega arith) (omega (arith, keyed-long)) (omega arith) (omega arith)
           (omega arith))
 
   pub set-key-is : (i : ℕ) (k : KeyWords) → fillOf ws ≤ 9 → i < fillOf ws
@@ -233,11 +233,11 @@ module _ (ws : List ℕ) (long : length ws ≡ 57) where
 module _ (a b : List ℕ) (la : length a ≡ 57) (lb : length b ≡ 57) where
   pub inner-joined-is : (m n l : ℕ) (k : KeyWords) → m ≡ fillOf a → n ≡ fillOf b → fillOf a + fillOf b ≤ 8 → l ≡ suc (fillOf a + fillOf b)
       → IsInner
-      (headedBy (copiedIn (copiedIn (sets a (3 + 4 * m) (keyList k)) (3 + 4 * m + 4) b 3 (4 * n)) (40 + m) b 39 (n + 1)) (markOf a) l (nextOf a))
+      (headedBy (copiedIn (copiedIn (sets a (3 + 4 * m) (keyList k)) (3 + 4 * m + 4) b 3 (4 * n)) (childWord (m + 1)) b 39 (n + 1)) (markOf a) l (nextOf a))
       (markOf a) (suc (fillOf a + fillOf b)) (nextOf a) (keysOf a ++ k ∷ keysOf b) (childrenOf a ++ childrenOf b)
   inner-joined-is m n l k e f h g =
       rw g
-      (headed-inner u (markOf a) (suc (fillOf a + fillOf b)) (nextOf a) _ _ (omega (arith, copy-long keyed (40 + m) b 39 (n + 1), keyed-long))
+      (headed-inner u (markOf a) (suc (fillOf a + fillOf b)) (nextOf a) _ _ (omega (arith, copy-long keyed (childWord (m + 1)) b 39 (n + 1), keyed-long))
       (same-up (keyWordsAt r) (suc (fillOf a + fillOf b)) (fillOf a + suc (fillOf b)) (omega arith)
       ∙ items-between 4 keyWord key-step keyWordsAt key-reads r a b (fillOf a) (fillOf b) k keys-left (key-is (fillOf a) k key-here) keys-right
       ∙ ap₂ (λ p q. p ++ k ∷ q) (sym (keys-up a 0 (fillOf a))) (sym (keys-up b 0 (fillOf b))))
@@ -252,7 +252,7 @@ module _ (a b : List ℕ) (la : length a ≡ 57) (lb : length b ≡ 57) where
       keyed = copiedIn put (3 + 4 * m + 4) b 3 (4 * n)
 
       u : List ℕ
-      u = copiedIn keyed (40 + m) b 39 (n + 1)
+      u = copiedIn keyed (childWord (m + 1)) b 39 (n + 1)
 
       r : List ℕ
       r = headedBy u (markOf a) (suc (fillOf a + fillOf b)) (nextOf a)
@@ -263,8 +263,8 @@ module _ (a b : List ℕ) (la : length a ≡ 57) (lb : length b ≡ 57) where
       keyed-long : length keyed ≡ length a
       keyed-long = copy-long put (3 + 4 * m + 4) b 3 (4 * n) ∙ put-long
 
-      from-keyed : {v : List ℕ} {s t l : ℕ} → 3 ≤ s → s + l ≤ 40 + m → Seg keyed s v t l → Seg r s v t l
-      from-keyed x y q = head-above u (markOf a) (suc (fillOf a + fillOf b)) (nextOf a) x (copy-below keyed (40 + m) b 39 (n + 1) y q)
+      from-keyed : {v : List ℕ} {s t l : ℕ} → 3 ≤ s → s + l ≤ childWord (m + 1) → Seg keyed s v t l → Seg r s v t l
+      from-keyed x y q = head-above u (markOf a) (suc (fillOf a + fillOf b)) (nextOf a) x (copy-below keyed (childWord (m + 1)) b 39 (n + 1) y q)
 
       from-put : {v : List ℕ} {s t l : ℕ} → 3 ≤ s → s + l ≤ 3 + 4 * m + 4 → Seg put s v t l → Seg r s v t l
       from-put x y q = from-keyed x (omega arith) (copy-below put (3 + 4 * m + 4) b 3 (4 * n) y q)
@@ -290,4 +290,4 @@ module _ (a b : List ℕ) (la : length a ≡ 57) (lb : length b ≡ 57) where
       children-right : Seg r (childWord (suc (fillOf a))) b 39 (1 * suc (fillOf b))
       children-right =
           head-above u (markOf a) (suc (fillOf a + fillOf b)) (nextOf a) (omega arith)
-          (copy-in keyed (40 + m) b 39 (n + 1) (childWord (suc (fillOf a))) 39 (1 * suc (fillOf b)) (omega arith) (omega (arith, keyed-long)) (omega arith) (omega arith) (omega arith))
+          (copy-in keyed (childWord (m + 1)) b 39 (n + 1) (childWord (suc (fillOf a))) 39 (1 * suc (fillOf b)) (omega arith) (omega (arith, keyed-long)) (omega arith) (omega arith) (omega arith))

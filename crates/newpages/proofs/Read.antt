@@ -88,8 +88,6 @@ key-in ws i m j d h = ap (λ l. getD l j d) (keys-up ws i m) ∙ up-at (keyWords
 pub child-in : (ws : List ℕ) (i m j : ℕ) → j < m → getD (childrenFrom ws i m) j 0 ≡ childIn ws (i + j)
 child-in ws i m j h = ap (λ l. getD l j 0) (children-up ws i m) ∙ up-at (childIn ws) i m j 0 h
 
--- THE TREE'S CHILDREN: a key's words with its list, in the image w; each key with the child on its left, and the last child
-
 -- the last of children
 pub last-append : {A : Type 0} (d y : A) (xs ys : List A) → lastOr d (xs ++ y ∷ ys) ≡ lastOr y ys
 unfolding lastOr

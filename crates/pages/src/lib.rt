@@ -1,9 +1,9 @@
-// The words of an image: readers of pages and stab records, each equal to the layout's definition. Past the image's end every word is 0,
+// The words of an image: where pages and stab records begin, and readers of them, each equal to the layout's definition. Past the image's end every word is 0,
 // so that a place of any number can be followed.
 ghost use mathlib.Core.Path.{_≡_};
-ghost use Prim.Native.Nat.{_+_, _*_, _<_, _≤_};
+ghost use Prim.Native.Nat.{_+_, _<_, _≤_};
 ghost use lib.ListN.{getD};
-ghost use Rattle.pages.specs.Layout.{pageOf, recordOf, markOf, fillOf, nextOf, regionIn, entryWord, flagIn, keyWord, childIn, recordNext, recordEnd, pageWidth};
+ghost use Rattle.pages.specs.Layout.{pageOf, recordOf, markOf, fillOf, nextOf, regionIn, flagIn, childIn, recordNext, recordEnd, pageWidth, recordWidth, pageWord, entryWord, keyWord, childWord, recordWord};
 use regions::Region;
 
 // The layout's numbers, as specs/Layout has them: an image and a page in words, how many pages and stab records there are,
@@ -38,12 +38,50 @@ pub struct KeyWords {
     pub head: u32,
 }
 
+// The word of the image with which page p begins: it fits for a place of any number.
+pub fn page_at(p: u32) -> usize
+    ensures { λ r. ⌜ r ≡ pageWord p ⌝ }
+{
+    PAGE_WIDTH * words::wide(p)
+}
+
+// Likewise stab record q.
+pub fn record_at(q: u32) -> usize
+    ensures { λ r. ⌜ r ≡ recordWord q ⌝ }
+{
+    RECORD_BASE + RECORD_WIDTH * words::wide(q)
+}
+
+// The word of a leaf with which entry i begins. Here and below i may be as many as there is room for: the word behind the last one.
+pub fn entry_word(i: usize) -> usize
+    requires { ⌜ i ≤ 9 ⌝ }
+    ensures { λ r. ⌜ r ≡ entryWord i ⌝ }
+{
+    HEAD_WIDTH + ENTRY_WIDTH * i
+}
+
+// The word of an inner page with which key i begins.
+pub fn key_word(i: usize) -> usize
+    requires { ⌜ i ≤ 9 ⌝ }
+    ensures { λ r. ⌜ r ≡ keyWord i ⌝ }
+{
+    HEAD_WIDTH + KEY_WIDTH * i
+}
+
+// The word of an inner page with child i.
+pub fn child_word(i: usize) -> usize
+    requires { ⌜ i ≤ 10 ⌝ }
+    ensures { λ r. ⌜ r ≡ childWord i ⌝ }
+{
+    FIRST_CHILD + i
+}
+
 // Word i of page p.
 pub fn page_word(img: &[u32], p: u32, i: usize) -> u32
     requires { ⌜ i < pageWidth ⌝ }
     ensures { λ r. ⌜ r ≡ getD (pageOf (now (img .entry)) p) i 0 ⌝ }
 {
-    words::word(img, 57 * words::wide(p) + i)
+    words::word(img, page_at(p) + i)
 }
 
 // 0 for a free place.
@@ -85,21 +123,21 @@ pub fn entry_region(img: &[u32], p: u32, i: usize) -> Region
     requires { ⌜ i < 9 ⌝ }
     ensures { λ r. ⌜ r ≡ regionIn (pageOf (now (img .entry)) p) (entryWord i) ⌝ }
 {
-    region_at(img, p, 3 + 6 * i)
+    region_at(img, p, entry_word(i))
 }
 
 pub fn entry_start(img: &[u32], p: u32, i: usize) -> u32
     requires { ⌜ i < 9 ⌝ }
     ensures { λ r. ⌜ r ≡ getD (pageOf (now (img .entry)) p) (entryWord i) 0 ⌝ }
 {
-    page_word(img, p, 3 + 6 * i)
+    page_word(img, p, entry_word(i))
 }
 
 pub fn entry_flag(img: &[u32], p: u32, i: usize) -> u32
     requires { ⌜ i < 9 ⌝ }
     ensures { λ r. ⌜ r ≡ flagIn (pageOf (now (img .entry)) p) i ⌝ }
 {
-    page_word(img, p, 3 + 6 * i + 4)
+    page_word(img, p, entry_word(i) + 4)
 }
 
 // Key i of inner page p alone.
@@ -107,7 +145,7 @@ pub fn key_number(img: &[u32], p: u32, i: usize) -> u32
     requires { ⌜ i < 9 ⌝ }
     ensures { λ r. ⌜ r ≡ getD (pageOf (now (img .entry)) p) (keyWord i) 0 ⌝ }
 {
-    page_word(img, p, 3 + 4 * i)
+    page_word(img, p, key_word(i))
 }
 
 // Key i of inner page p with its stored pair and the head of its list.
@@ -115,7 +153,7 @@ pub fn key_words(img: &[u32], p: u32, i: usize) -> KeyWords
     requires { ⌜ i < 9 ⌝ }
     ensures { λ r. ⌜ (r .key ≡ getD (pageOf (now (img .entry)) p) (keyWord i) 0) × (r .start ≡ getD (pageOf (now (img .entry)) p) (keyWord i + 1) 0) × (r .end ≡ getD (pageOf (now (img .entry)) p) (keyWord i + 2) 0) × (r .head ≡ getD (pageOf (now (img .entry)) p) (keyWord i + 3) 0) ⌝ }
 {
-    let b = 3 + 4 * i;
+    let b = key_word(i);
     KeyWords {
         key: page_word(img, p, b),
         start: page_word(img, p, b + 1),
@@ -129,15 +167,15 @@ pub fn child(img: &[u32], p: u32, i: usize) -> u32
     requires { ⌜ i < 10 ⌝ }
     ensures { λ r. ⌜ r ≡ childIn (pageOf (now (img .entry)) p) i ⌝ }
 {
-    page_word(img, p, 39 + i)
+    page_word(img, p, child_word(i))
 }
 
 // Word i of stab record q.
 pub fn record_word(img: &[u32], q: u32, i: usize) -> u32
-    requires { ⌜ i < 6 ⌝ }
+    requires { ⌜ i < recordWidth ⌝ }
     ensures { λ r. ⌜ r ≡ getD (recordOf (now (img .entry)) q) i 0 ⌝ }
 {
-    words::word(img, 9177 + 6 * words::wide(q) + i)
+    words::word(img, record_at(q) + i)
 }
 
 // The region of stab record q.

@@ -18,7 +18,7 @@ use Rattle.regions.specs.Sets.{Set, emptySet, heldBy, shareOf, heldAt, crossed,
 use Rattle.regions.specs.Numbers.{REGION, ACCOUNT, HELD, CROSS, SHARE, ABSENT, SEAT, LIMIT, DESK, unless}
 use Rattle.regions.specs.Calls.{foreign, openSetNo, saveNo, deleteNo, pointNo, boundsNo, joinNo, ancestors, parent, descendants, children, joined}
 use Rattle.regions.specs.Desk.{seatFits, deskFits, bufferFits, isOpen, limitOf, closed, opened, seatAt, openSeatNo, closeSeatNo, handedWords, roundNo, partNo}
-use Rattle.regions.proofs.Extra.{first-no}
+use Rattle.words.proofs.Listed.{first-no}
 use Rattle.regions.proofs.Done.{DeskOk, fits-desk, fits-buffer, open-set-done, save-done, open-seat-done, done-round}
 use Rattle.regions.specs.Sound.{Sound}
 use Rattle.regions.proofs.Rising.{empty-sound, saved-sound, deleted-sound, saved-all, deleted-all}

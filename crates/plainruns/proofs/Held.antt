@@ -18,7 +18,7 @@ use Rattle.regions.specs.declared.Seat.{Seat}
 use Rattle.regions.specs.Sets.{Set, isAt, isNotAt, heldAt, startsBefore, startsBehind, saved, deleted}
 use Rattle.regions.specs.Calls.{saveNo, deleteNo}
 use Rattle.regions.specs.Desk.{seatAt, openSeatNo, closeSeatNo, handedWords, counts, poured, roundNo}
-use Rattle.regions.proofs.Extra.{true-so, so-true, so-false}
+use Rattle.words.proofs.Says.{true-so, so-true, so-false}
 use Rattle.regions.proofs.Means.{at-says}
 use Rattle.regions.proofs.Done.{save-done, open-seat-done}
 use Rattle.regions.specs.Sound.{Rising, Sound}

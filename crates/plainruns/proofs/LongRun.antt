@@ -13,8 +13,8 @@ use native.Mathlib.Omega.{arith}
 use native.Mathlib.Decide.{decLt}
 use Rattle.words.specs.Lists.{filter, some, All, In, lastOr}
 use Rattle.words.proofs.Tests.{T-of, of-T, off-T, and-left, and-right, or-false-left, or-false-right, not-true, by-test, eq-of, ne-of, eq-yes, eq-no, either}
-use Rattle.words.proofs.Listed.{all-mono, all-append, all-left, all-right, all-take, all-let, in-all, pairs-across, pairs-append, filter-none, filter-yes, filter-no, flat-append}
-use Rattle.words.proofs.Says.{and-says, eq-says}
+use Rattle.words.proofs.Listed.{all-mono, all-append, all-left, all-right, all-take, all-let, in-all, pairs-across, pairs-append, filter-none, filter-yes, filter-no, flat-append, all-end}
+use Rattle.words.proofs.Says.{and-says, eq-says, true-so, so-true}
 use Rattle.regions.specs.declared.Kind.{Kind}
 use Rattle.regions.specs.declared.Mark.{Mark}
 use Rattle.regions.specs.declared.Mark.the-variants.{Fresh, Last}
@@ -23,7 +23,7 @@ use Rattle.regions.specs.declared.Seat.{Seat}
 use Rattle.regions.specs.Sets.{Set, only, saved, deleted}
 use Rattle.regions.specs.Calls.{saveNo, deleteNo, pointNo, boundsNo, joinNo, ancestors, parent, descendants, children, Pair, joined, pairWords}
 use Rattle.regions.specs.Desk.{isPast, past, markBehind, closed, openAt, opened, limitAsked, stateOpen, isOpen, seatAt, openSeatNo, closeSeatNo, stateHanded, handed, stateTurned, turned, roundNo}
-use Rattle.regions.proofs.Extra.{true-so, so-true, all-end}
+use Rattle.regions.specs.Sound.{Then, Ascending}
 use Rattle.regions.proofs.Done.{save-done, delete-done, open-seat-done}
 use Rattle.regions.proofs.Local.{joined-local, saved-other, deleted-other}
 use Rattle.regions.proofs.Joined.{Lex, later-says, later-trans, then-apart, then-not, joined-ascends, ascending-past, ascending-take, past-fresh, mark-twice, past-next}
@@ -33,7 +33,6 @@ use Rattle.plainruns.specs.Calls.Look.{ancestorSearch, parentSearch, des
 use Rattle.plainruns.specs.Calls.Call.{save, delete, look, round, openSeat, closeSeat, askPart, askPartNo}
 use Rattle.plainruns.specs.Calls.Run.{none, then}
 use Rattle.plainruns.specs.Held.{isWhich, isRound}
-use Rattle.regions.specs.Sound.{Then, Ascending}
 use Rattle.plainruns.specs.Long.{isPair, reaches, staysOpen, Stays, handedBy, handedIn, toldTo, roundsIn, touches, Quiet}
 use Rattle.plainruns.proofs.Good.{Good, good-set, good-next, good-reached, round-answer, round-leaves}
 use Rattle.plainruns.proofs.Demand.{after, take-min, words-at}

@@ -1,27 +1,26 @@
 -- How long a line is, the text of one pair more, and that the words which the join writes make the text of its pairs and the mark behind them.
 -- Assumes nothing.
-use Prim.Native.Nat.{ℕ, zero, suc, _+_, _*_, _-_, _/_, _<_, _≤_}
+use Prim.Native.Nat.{ℕ, zero, suc, _+_, _*_, _/_, _≤_}
 use native.Mathlib.Omega.{arith}
 use mathlib.Core.Path.{_≡_, refl, sym, ap, ap₂, _∙_}
 use mathlib.Core.Bool.{false}
 use mathlib.Core.List.{List, [], _∷_, _++_, flatMap, append-nil, append-assoc}
 use lib.ListN.{length, take, drop, getD, length-append, length-take, length-drop}
 use lib.Seq.{sets, length-sets, drop-cons, drop-drop, take-take}
-use Rattle.words.specs.Lists.{lastOr}
-use Rattle.words.proofs.Tests.{eq-no}
 use Rattle.words.proofs.Written.{sets-append}
 use Rattle.lines.specs.Text.{decimal, line}
 use Rattle.lines.specs.Reads.{PutsLine}
 use Rattle.lines.proofs.Digits.{decimal-few}
 use Rattle.lines.proofs.Written.{line-more, line-one}
 use Rattle.regions.specs.Limits.{pairWidth}
-use Rattle.regions.specs.Calls.{Pair, pairWords, countWritten}
+use Rattle.regions.specs.Calls.{Pair, pairWords, written, countWritten}
 use Rattle.regions.specs.Desk.{past, markBehind}
 use Rattle.regions.specs.declared.Mark.{Mark}
-use Rattle.regions.specs.declared.Mark.the-variants.{Last}
 use Rattle.regions.proofs.Fits.{pair-wide, written-is, written-long}
+use Rattle.seats.specs.Steps.{markRead}
+use Rattle.seats.proofs.Marks.{mark-read}
 use Rattle.join.specs.Joins.{Joined}
-use Rattle.printout.specs.Printed.{pairLine, pairsText, wordsText, PutsPairs, markRead, batchPairs, batch, PutsBatch}
+use Rattle.printout.specs.Printed.{pairLine, pairsText, wordsText, PutsPairs, batchPairs, batch, PutsBatch}
 
 -- HOW LONG: a number has at most ten digits, so a line of k numbers at most 11 k bytes
 pub line-long : (ns : List ℕ) → 1 ≤ length ns → length (line ns) ≤ 11 * length ns
@@ -90,27 +89,6 @@ unfolding wordsText flatMap
 words-text [] rest = refl
 words-text (q ∷ qs) rest = ap (λ (t : List ℕ). pairLine q ++ t) (words-text qs rest)
 
-last-word : (q : Pair) (qs : List Pair) (rest : List ℕ) (k : ℕ) → k < 4 → getD (flatMap pairWords (q ∷ qs) ++ rest) (4 * length qs + k) 0 ≡ getD (pairWords (lastOr q qs)) k 0
-unfolding flatMap lastOr
-last-word q [] rest zero h = refl
-last-word q [] rest (suc zero) h = refl
-last-word q [] rest (suc (suc zero)) h = refl
-last-word q [] rest (suc (suc (suc zero))) h = refl
-last-word q [] rest (suc (suc (suc (suc k)))) h = absurd (omega arith)
-last-word q (r ∷ qs) rest k h =
-    let e : 4 * suc (length qs) + k ≡ suc (suc (suc (suc (4 * length qs + k)))) = omega arith in
-    ap (λ (m : ℕ). getD (flatMap pairWords (q ∷ r ∷ qs) ++ rest) m 0) e ∙ last-word r qs rest k h
-
-mark-words : (m : Mark) (qs : List Pair) (rest : List ℕ) → markRead m (flatMap pairWords qs ++ rest) (length qs) ≡ markBehind m qs
-unfolding markRead markBehind
-mark-words m [] rest = refl
-mark-words m (q ∷ qs) rest =
-    let ws = flatMap pairWords (q ∷ qs) ++ rest in
-    let e : 4 * (suc (length qs) - 1) ≡ 4 * length qs + 0 = omega arith in
-    let e′ : 4 * (suc (length qs) - 1) + 2 ≡ 4 * length qs + 2 = omega arith in
-    rw (eq-no (suc (length qs)) 0 (λ z. omega arith))
-    (ap₂ Last (ap (λ (p : ℕ). getD ws p 0) e ∙ last-word q qs rest 0 (omega arith)) (ap (λ (p : ℕ). getD ws p 0) e′ ∙ last-word q qs rest 2 (omega arith)))
-
 -- what 1,024 lent words hold of the pairs past a mark: as many as a batch has
 module _ (qs : List Pair) (m : Mark) (ws : List ℕ) (n : ℕ) (ws′ : List ℕ) (long : length ws ≡ 1024) (j : Joined (past m qs) false ws ws′ n) where
   pub joined-count : n ≡ length (batch m qs)
@@ -131,10 +109,13 @@ module _ (qs : List Pair) (m : Mark) (ws : List ℕ) (n : ℕ) (ws′ : List ℕ
   pub joined-text : wordsText n ws′ ≡ pairsText (batch m qs)
   joined-text = ap₂ wordsText joined-count joined-words ∙ words-text (batch m qs) (drop (4 * countWritten pairWidth ws (past m qs)) ws)
 
-  pub joined-mark : markRead m ws′ n ≡ markBehind m (batch m qs)
-  joined-mark = ap₂ (markRead m) joined-words joined-count ∙ mark-words m (batch m qs) (drop (4 * countWritten pairWidth ws (past m qs)) ws)
+  pub joined-mark : markRead m ws′ 0 n ≡ markBehind m (batch m qs)
+  unfolding written
+  joined-mark =
+      let put : ws′ ≡ sets ws 0 (flatMap pairWords (batch m qs)) = j .words ∙ ap (λ (l : ℕ). sets ws 0 (flatMap pairWords (take (l / 4) (past m qs)))) long in
+      ap₂ (λ (l : List ℕ) (k : ℕ). markRead m l 0 k) put joined-count ∙ mark-read m ws 0 (batch m qs) (omega (arith, joined-few, joined-count))
 
-  pub batch-put : (out : List ℕ) (bytes : ℕ) (m′ : Mark) (out′ : List ℕ) → PutsPairs ws′ n out bytes out′ → m′ ≡ markRead m ws′ n → PutsBatch qs m ws out bytes n m′ ws′ out′
+  pub batch-put : (out : List ℕ) (bytes : ℕ) (m′ : Mark) (out′ : List ℕ) → PutsPairs ws′ n out bytes out′ → m′ ≡ markRead m ws′ 0 n → PutsBatch qs m ws out bytes n m′ ws′ out′
   batch-put out bytes m′ out′ p e =
       record {
         text-is = p .put ∙ ap (sets out 0) joined-text;

@@ -19,7 +19,8 @@ use Rattle.regions.proofs.Joined.{joined-ascends, past-fresh, past-next}
 use Rattle.image.specs.Read.{setOf}
 use Rattle.image.specs.Valid.{valid}
 use Rattle.image.proofs.Sound.{set-rises}
-use Rattle.printout.specs.Printed.{pairLine, pairsText, batchPairs, batch, Batches, none-left, one-more, accountText, accounts, joinText}
+use Rattle.regions.specs.Limits.{accounts}
+use Rattle.printout.specs.Printed.{pairLine, pairsText, batchPairs, batch, Batches, none-left, one-more, accountText, joinText}
 
 none-long : {A : Type 0} (xs : List A) → length xs ≡ 0 → xs ≡ []
 none-long [] e = refl

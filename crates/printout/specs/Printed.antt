@@ -1,20 +1,17 @@
 -- Document 01, "The listing and its program", of what is printed: a line for a pair. The pairs of an account are printed in batches, each past the mark behind the one before.
 -- Assumes nothing.
-use Prim.Native.Nat.{ℕ, zero, suc, _+_, _*_, _-_}
+use Prim.Native.Nat.{ℕ, zero, suc}
 use mathlib.Core.Path.{_≡_}
-use mathlib.Core.Bool.{cond}
-use mathlib.Core.List.{List, [], _∷_, _++_, flatMap}
-use lib.Dec.{eqb}
-use lib.ListN.{length, take, drop, getD}
+use mathlib.Core.List.{List, [], _++_, flatMap}
+use lib.ListN.{length, take, drop}
 use lib.Seq.{sets}
 use Rattle.lines.specs.Text.{line}
 use Rattle.regions.specs.Sets.{Set}
-use Rattle.regions.specs.Limits.{pairWidth}
+use Rattle.regions.specs.Limits.{pairWidth, accounts}
 use Rattle.regions.specs.Calls.{Pair, joined, pairWords, written}
 use Rattle.regions.specs.Desk.{past, markBehind}
 use Rattle.regions.specs.declared.Kind.the-variants.{Ancestor}
 use Rattle.regions.specs.declared.Mark.{Mark}
-use Rattle.regions.specs.declared.Mark.the-variants.{Last}
 
 -- A PAIR'S LINE: a start, a reference, d start, d reference. A row of pairs as text
 abbrev pub pairLine : Pair → List ℕ
@@ -32,10 +29,6 @@ wordsText (suc n) ws = line (take pairWidth ws) ++ wordsText n (drop pairWidth w
 pub record PutsPairs (ws : List ℕ) (n : ℕ) (out : List ℕ) (bytes : ℕ) (out′ : List ℕ) : Type 0 where
   pub put : out′ ≡ sets out 0 (wordsText n ws)
   pub ends : bytes ≡ length (wordsText n ws)
-
--- the mark behind n pairs that stand as words: the last one's words 0 and 2
-unfoldable pub markRead : Mark → List ℕ → ℕ → Mark
-markRead m ws n = cond (eqb n 0) m (Last (getD ws (4 * (n - 1)) 0) (getD ws (4 * (n - 1) + 2) 0))
 
 -- A BATCH: the next pairs past a mark
 abbrev pub batchPairs : ℕ
@@ -60,9 +53,6 @@ pub data Batches (qs : List Pair) : Mark → List ℕ → Type 0 where
 -- THE WHOLE JOIN: account after account
 abbrev pub accountText : Set → Set → ℕ → List ℕ
 accountText X Y a = pairsText (joined X Y a Ancestor)
-
-abbrev pub accounts : List ℕ
-accounts = 0 ∷ 1 ∷ 2 ∷ 3 ∷ 4 ∷ 5 ∷ 6 ∷ 7 ∷ 8 ∷ 9 ∷ 10 ∷ 11 ∷ 12 ∷ 13 ∷ 14 ∷ 15 ∷ []
 
 abbrev pub joinText : Set → Set → List ℕ
 joinText X Y = flatMap (accountText X Y) accounts

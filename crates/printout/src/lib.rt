@@ -8,7 +8,7 @@ ghost use Rattle.regions.specs.Calls.{joined};
 ghost use Rattle.regions.specs.declared.Kind.the-variants.{Ancestor};
 ghost use Rattle.image.specs.Read.{setOf};
 ghost use Rattle.image.specs.Valid.{valid};
-ghost use Rattle.printout.specs.Printed.{markRead, PutsPairs, PutsBatch};
+ghost use Rattle.printout.specs.Printed.{PutsPairs, PutsBatch};
 use regions::Kind;
 use regions::Mark;
 
@@ -33,18 +33,6 @@ pub fn put_pairs(words: &[u32], n: usize, out: &mut [u8]) -> usize
         i += 1;
     }
     at
-}
-
-// The mark behind n pairs: the last one's two starts, or as it was where there is none.
-fn mark_behind(mark: Mark, words: &[u32], n: usize) -> Mark
-    requires { ⌜ 4 * n ≤ length (now words) ⌝ }
-    ensures { λ r. ⌜ r ≡ markRead mark (now (words .entry)) n ⌝ }
-{
-    if n == 0 {
-        return mark;
-    }
-    let last = 4 * (n - 1);
-    Mark::Last(words[last], words[last + 2])
 }
 
 // A batch: how many bytes and pairs it has, and the mark behind them.
@@ -72,6 +60,6 @@ pub fn next_lines(
     Batch {
         bytes: put_pairs(words, n, out),
         pairs: n,
-        mark: mark_behind(mark, words, n),
+        mark: seats::mark_behind(mark, words, 0, n),
     }
 }

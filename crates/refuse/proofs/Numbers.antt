@@ -12,7 +12,7 @@ use Rattle.regions.specs.Positions.{wellFormed}
 use Rattle.regions.specs.Sets.{Set, heldAt, crossed, shareOf, heldBy}
 use Rattle.regions.specs.Calls.{foreign, saveNo, deleteNo}
 use Rattle.regions.specs.declared.Region.{Region}
-use Rattle.regions.proofs.Extra.{true-so}
+use Rattle.words.proofs.Says.{true-so}
 use Rattle.regions.proofs.Means.{formed-says}
 use Rattle.regions.proofs.Done.{own-of}
 use Rattle.image.specs.Read.{setOf}

@@ -1,10 +1,10 @@
 // Which test refuses a save or a delete of a valid image: the call's own tests in their order; 0 where the call may go on.
 ghost use mathlib.Core.Path.{_≡_};
-ghost use Prim.Native.Nat.{_≤_, _<_};
+ghost use Prim.Native.Nat.{_<_};
 ghost use lib.Dec.{T, leb};
 ghost use lib.ListN.{getD};
 ghost use Rattle.regions.specs.Limits.{accountCount};
-ghost use Rattle.regions.specs.Sets.{heldAt, shareOf, heldBy, crossed};
+ghost use Rattle.regions.specs.Sets.{heldAt, shareOf, heldBy};
 ghost use Rattle.regions.specs.Calls.{saveNo, deleteNo};
 ghost use Rattle.image.specs.Read.{setOf};
 ghost use Rattle.image.specs.Valid.{valid};

@@ -7,14 +7,14 @@ use mathlib.Core.List.{List, [], _∷_, _++_}
 use lib.Dec.{T}
 use native.Mathlib.Omega.{arith}
 use Rattle.words.specs.Lists.{filter, some, All, Pairs}
-use Rattle.words.proofs.Listed.{all-mono, pairs-filter, pairs-kept, pairs-across}
+use Rattle.words.proofs.Listed.{all-mono, pairs-filter, pairs-kept, pairs-across, last-split, pairs-two}
+use Rattle.words.proofs.Says.{true-so, so-true}
 use Rattle.regions.specs.declared.Region.{Region}
 use Rattle.regions.specs.Positions.{nested, contains, holds, isAbove}
 use Rattle.regions.specs.Sets.{Set}
 use Rattle.regions.specs.Calls.{ancestors, innermost, parent}
-use Rattle.regions.proofs.Extra.{true-so, so-true, last-split, pairs-two}
-use Rattle.regions.proofs.Means.{holds-says, contains-says, nested-in-turn}
 use Rattle.regions.specs.Sound.{Rising, Nesting}
+use Rattle.regions.proofs.Means.{holds-says, contains-says, nested-in-turn}
 
 abbrev pub Inward : List Region → Type 0
 Inward rs = Pairs (λ x y. contains x y ≡ true) rs

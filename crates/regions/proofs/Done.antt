@@ -8,13 +8,13 @@ use lib.Dec.{leb, ltb, eqb}
 use lib.ListN.{length}
 use Rattle.words.specs.Lists.{all, firstNo, sum}
 use Rattle.words.proofs.Tests.{of-T, T-of, and-left, and-right, or-false-left, or-false-right, not-false, not-true, nlt-of, nle-of, lt-no, le-no, eq-of, eq-yes, first-0}
+use Rattle.words.proofs.Says.{true-so, so-true}
 use Rattle.regions.specs.declared.Region.{Region}
 use Rattle.regions.specs.declared.Seat.{Seat}
 use Rattle.regions.specs.Positions.{account, wellBound, wellFormed}
 use Rattle.regions.specs.Sets.{Set, heldAt, crossed, heldBy, shareOf}
 use Rattle.regions.specs.Calls.{foreign, openSetNo, saveNo, deleteNo, pointNo, boundsNo, joinNo}
 use Rattle.regions.specs.Desk.{deskFits, bufferFits, seatFits, seatAt, isOpen, limitOf, openDeskNo, openSeatNo, closeSeatNo, roundNo, partNo}
-use Rattle.regions.proofs.Extra.{true-so, so-true}
 use Rattle.regions.proofs.Means.{foreign-says}
 
 -- an account is in range and a position is its own

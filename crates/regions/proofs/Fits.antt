@@ -9,9 +9,9 @@ use lib.Seq.{length-sets, sets-eq}
 use native.Mathlib.Omega.{arith}
 use native.Mathlib.Nat.{le-trans, mul-div-le, mul-le-mul-left}
 use Rattle.words.proofs.Written.{flat-long}
+use Rattle.words.proofs.Says.{some-drop, lt-same}
 use Rattle.regions.specs.Limits.{pairWidth}
 use Rattle.regions.specs.Calls.{Pair, room, written, countWritten, moreRemain, pairWords}
-use Rattle.regions.proofs.Extra.{some-drop, lt-same}
 
 module _ {X : Type 0} (width : ℕ) (out : List ℕ) (xs : List X) where
   pub count-is : countWritten width out xs ≡ min (room width out) (length xs)

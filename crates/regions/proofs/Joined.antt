@@ -9,8 +9,8 @@ use lib.ListN.{take, drop, take-append-drop}
 use native.Mathlib.Omega.{arith}
 use Rattle.words.specs.Lists.{filter, All, Pairs, lastOr}
 use Rattle.words.proofs.Tests.{T-of, of-T, off-T, and-left, by-test, eq-yes}
-use Rattle.words.proofs.Listed.{all-mono, all-two, all-every, all-let, all-kept, all-map, all-flat, pairs-mono, pairs-left, pairs-across, pairs-append, pairs-kept, filter-append, filter-all, filter-none, filter-no}
-use Rattle.words.proofs.Says.{Says, and-says, eq-says, lt-says}
+use Rattle.words.proofs.Listed.{all-mono, all-two, all-every, all-let, all-kept, all-map, all-flat, pairs-mono, pairs-left, pairs-across, pairs-append, pairs-kept, filter-append, filter-all, filter-none, filter-no, all-end, last-append}
+use Rattle.words.proofs.Says.{Says, and-says, eq-says, lt-says, or-says, true-so, so-true}
 use Rattle.regions.specs.declared.Region.{Region}
 use Rattle.regions.specs.declared.Kind.{Kind}
 use Rattle.regions.specs.declared.Kind.the-variants.{Ancestor, Parent}
@@ -20,7 +20,6 @@ use Rattle.regions.specs.Positions.{holds, isAbove}
 use Rattle.regions.specs.Sets.{Set, of}
 use Rattle.regions.specs.Calls.{Pair, pairsWith, pairOf, pairsOf, joined}
 use Rattle.regions.specs.Desk.{later, isPast, past, markBehind, markFits}
-use Rattle.regions.proofs.Extra.{or-says, true-so, so-true, all-end, last-append}
 use Rattle.regions.proofs.Means.{of-says}
 use Rattle.regions.specs.Sound.{Rising, Then, Ascending}
 

@@ -1,6 +1,5 @@
 pub mod Small
 pub mod Bench
-pub mod Extra
 pub mod Means
 pub mod Local
 pub mod Done
@@ -9,3 +8,5 @@ pub mod Chain
 pub mod Joined
 pub mod Fits
 pub mod Seats
+pub mod Shares
+pub mod Numbers

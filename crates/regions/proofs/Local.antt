@@ -11,6 +11,7 @@ use native.Mathlib.Decide.{decLt}
 use Rattle.words.specs.Lists.{filter, some, All, firstNo}
 use Rattle.words.proofs.Tests.{not-false, first-else}
 use Rattle.words.proofs.Listed.{all-mono, all-every, all-let, filter-append, filter-all, filter-none, filter-comm, filter-within, filter-twice}
+use Rattle.words.proofs.Says.{true-so, so-true, so-false}
 use Rattle.regions.specs.declared.Region.{Region}
 use Rattle.regions.specs.declared.Kind.{Kind}
 use Rattle.regions.specs.Positions.{document, account, wellBound, wellFormed, crosses, holds, inside, isAbove, isBelow}
@@ -18,7 +19,6 @@ use Rattle.regions.specs.Sets.{Set, of, only, heldBy, shareOf, isAt, hel
 use Rattle.regions.specs.Numbers.{REGION, ACCOUNT, HELD, CROSS, SHARE, ABSENT}
 use Rattle.regions.specs.Sound.{Wf}
 use Rattle.regions.specs.Calls.{foreign, saveNo, deleteNo, ancestors, innermost, parent, descendants, children, pairsOf, joined}
-use Rattle.regions.proofs.Extra.{true-so, so-true, so-false}
 use Rattle.regions.proofs.Means.{Formed, formed-says, bound-says, foreign-says, crosses-says, holds-says, inside-says, of-says, at-says, before-says, behind-says}
 
 -- POSITIONS AND REGIONS OF ONE ACCOUNT

@@ -8,12 +8,11 @@ use mathlib.Core.List.{List}
 use native.Mathlib.Omega.{arith}
 use native.Mathlib.Decide.{decLe, ℕ-discrete}
 use Rattle.words.specs.Lists.{filter}
-use Rattle.words.proofs.Says.{Says, says-iff, says-same, and-says, eq-says, lt-says, le-says}
+use Rattle.words.proofs.Says.{Says, says-iff, says-same, and-says, eq-says, lt-says, le-says, or-says, not-says}
 use Rattle.regions.specs.declared.Region.{Region}
 use Rattle.regions.specs.Positions.{document, account, wellBound, wellFormed, endsBefore, contains, nested, crosses, holds, inside, isAbove, isBelow}
 use Rattle.regions.specs.Sets.{of, isAt, startsBefore, startsBehind, startsFrom}
 use Rattle.regions.specs.Calls.{foreign}
-use Rattle.regions.proofs.Extra.{or-says, not-says}
 
 -- POSITIONS
 pub bound-says : (s e : ℕ) → Says (wellBound s e) ((s < e) × (document s ≡ document e))

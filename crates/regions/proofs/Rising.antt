@@ -10,13 +10,12 @@ use native.Mathlib.Omega.{arith}
 use native.Mathlib.Decide.{decLt, ℕ-discrete}
 use Rattle.words.specs.Lists.{filter, dropWhile, some, allPairs, All, Pairs, sum}
 use Rattle.words.proofs.Tests.{T-of, of-T, not-false, not-true, by-test}
-use Rattle.words.proofs.Listed.{all-mono, all-every, all-two, all-append, all-kept, all-let, pairs-mono, pairs-kept, pairs-right, pairs-across, pairs-put, filter-append, filter-yes, filter-no, filter-all, filter-none, filter-same, filter-comm, none-of, some-none, begins, rests, while-join}
-use Rattle.words.proofs.Says.{Says, says-same, says-iff, pairs-say}
+use Rattle.words.proofs.Listed.{all-mono, all-every, all-two, all-append, all-kept, all-let, pairs-mono, pairs-kept, pairs-right, pairs-across, pairs-put, filter-append, filter-yes, filter-no, filter-all, filter-none, filter-same, filter-comm, none-of, some-none, begins, rests, while-join, length-parts}
+use Rattle.words.proofs.Says.{Says, says-same, says-iff, pairs-say, true-so, so-true, false-so, so-false, not-says}
 use Rattle.regions.specs.declared.Region.{Region}
 use Rattle.regions.specs.Positions.{account, nested, crosses}
 use Rattle.regions.specs.Sets.{Set, emptySet, of, heldBy, shareOf, isAt, heldAt, crossed, startsBefore, startsBehind, startsFrom, saved, isNotAt, deleted}
 use Rattle.regions.specs.Calls.{saveNo, deleteNo}
-use Rattle.regions.proofs.Extra.{true-so, so-true, false-so, so-false, not-says, length-parts}
 use Rattle.regions.proofs.Means.{at-says, before-says, behind-says, from-says, of-says, nested-comm}
 use Rattle.regions.specs.Sound.{Wf, Rising, Nesting, Sound}
 use Rattle.regions.proofs.Local.{held-local, saved-of, saved-other, deleted-other}
@@ -76,8 +75,6 @@ free-all s S e = all-mono {Q = λ x. isNotAt s x ≡ true} (λ x h. ap not h) (S
 
 pub free-sides : (s : ℕ) (S : Set) → Rising (S .regions) → heldAt s S ≡ false → filter (startsBefore s) (S .regions) ++ filter (startsBehind s) (S .regions) ≡ S .regions
 free-sides s S h e = sides s (S .regions) h ∙ filter-all (isNotAt s) (S .regions) (free-all s S e)
-
--- WHERE A SAVED REGION COMES TO STAND, and what a delete leaves
 
 pub deleted-splits : (S : Set) (r : Region) (us vs : List Region) → Rising (S .regions) → S .regions ≡ us ++ r ∷ vs → deleted (r .start) S .regions ≡ us ++ vs
 unfolding deleted

@@ -6,10 +6,10 @@ use mathlib.Core.Bool.{true, false, not}
 use lib.Dec.{leb, ltb, eqb}
 use native.Mathlib.Omega.{arith}
 use Rattle.words.proofs.Tests.{lt-yes, lt-no, le-yes, le-no, eq-no}
+use Rattle.words.proofs.Says.{eq-same}
 use Rattle.regions.specs.declared.Region.{Region}
 use Rattle.regions.specs.Positions.{document, account, wellBound, wellFormed, endsBefore, contains, nested, crosses, stabs, holds, inside, isAbove, isBelow}
 use Rattle.regions.specs.Calls.{foreign}
-use Rattle.regions.proofs.Extra.{eq-same}
 
 -- search bounds, and a region
 pub bound-no : (s e : ℕ) → e ≤ s → false ≡ wellBound s e

@@ -4,5 +4,6 @@ pub mod Sets
 pub mod Numbers
 pub mod Calls
 pub mod Desk
+pub mod Flat
 pub mod Sound
 pub mod Bench

@@ -1,6 +1,7 @@
 -- Document 01: the numbers of the house, each by its name. (Refusals have theirs in Numbers, the words of an image in crate pages.)
 -- Assumes nothing.
 use Prim.Native.Nat.{ℕ}
+use mathlib.Core.List.{List, [], _∷_}
 
 -- accounts, from 0 to the last
 abbrev pub accountCount : ℕ
@@ -49,3 +50,6 @@ seatWidth = 128
 
 abbrev pub bufferWords : ℕ
 bufferWords = 1024
+
+abbrev pub accounts : List ℕ
+accounts = 0 ∷ 1 ∷ 2 ∷ 3 ∷ 4 ∷ 5 ∷ 6 ∷ 7 ∷ 8 ∷ 9 ∷ 10 ∷ 11 ∷ 12 ∷ 13 ∷ 14 ∷ 15 ∷ []

@@ -1,6 +1,6 @@
 -- Document 01, "Positions, regions, accounts".
 -- Assumes nothing.
-use Prim.Native.Nat.{ℕ, _+_, _/_}
+use Prim.Native.Nat.{ℕ, _+_, _/_, _*_}
 use mathlib.Core.Bool.{Bool, not, _&&_, _||_}
 use lib.Dec.{leb, ltb, eqb}
 use Rattle.regions.specs.Limits.{accountPositions, documentPositions, lastLevel}
@@ -53,3 +53,7 @@ isAbove l r = eqb (r .level + 1) l
 
 unfoldable pub isBelow : ℕ → Region → Bool
 isBelow l r = eqb (r .level) (l + 1)
+
+-- the first position of an account
+abbrev pub lowest : ℕ → ℕ
+lowest a = a * accountPositions

@@ -1,7 +1,12 @@
 // Regions, kinds, marks and seats, and the small tests on them that everybody needs, each equal to its definition.
 ghost use mathlib.Core.Path.{_≡_};
-ghost use Rattle.regions.specs.Positions.{document, account, wellBound, wellFormed, endsBefore, contains, nested, crosses, stabs, holds, inside, isAbove, isBelow};
+ghost use lib.Dec.{leb};
+ghost use Rattle.words.specs.Lists.{sum};
+ghost use Rattle.regions.specs.Limits.{mostRegions};
+ghost use Rattle.regions.specs.Positions.{document, account, wellBound, wellFormed, endsBefore, contains, crosses, stabs, holds, inside, isAbove, isBelow};
 ghost use Rattle.regions.specs.Calls.{foreign};
+ghost use Rattle.regions.specs.Desk.{closed};
+ghost use Rattle.regions.specs.Flat.{kindOf, kindNumber, markOf, seatOfNumbers};
 
 // REFUSALS, by their number (document 01's table). A call that is done answers DONE.
 pub const DONE: u32 = 0;
@@ -217,4 +222,84 @@ pub fn foreign(account: u32, p: u32) -> bool
         return true;
     }
     account_of(p) != account
+}
+
+// Whether sixteen shares sum to at most 500. No sum is made that could pass it, so none can wrap.
+pub fn shares_fit(shares: Shares) -> bool
+    ensures { λ r. ⌜ r ≡ leb (sum shares) mostRegions ⌝ }
+{
+    let mut room: u32 = MOST_REGIONS;
+    let mut a: usize = 0;
+    while a < ACCOUNT_COUNT {
+        let share = shares[a];
+        if room < share {
+            return false;
+        }
+        room -= share;
+        a += 1;
+    }
+    true
+}
+
+pub fn closed_seat() -> Seat
+    ensures { λ r. ⌜ r ≡ closed ⌝ }
+{
+    let st = State::Closed;
+    Seat { state: st }
+}
+
+// IN PLAIN NUMBERS, for whoever has only numbers to hand. A join's kind: 0 is by ancestor, all else by parent.
+pub fn kind_of(number: u32) -> Kind
+    ensures { λ r. ⌜ r ≡ kindOf number ⌝ }
+{
+    if number == 0 {
+        return Kind::Ancestor;
+    }
+    Kind::Parent
+}
+
+pub fn kind_number(kind: Kind) -> u32
+    ensures { λ r. ⌜ r ≡ kindNumber kind ⌝ }
+{
+    match kind {
+        Kind::Ancestor => 0,
+        Kind::Parent => 1,
+    }
+}
+
+// A mark: none where marked is 0, and then a and d mean nothing.
+fn mark_of(marked: u32, a: u32, d: u32) -> Mark
+    ensures { λ r. ⌜ r ≡ markOf marked a d ⌝ }
+{
+    if marked == 0 {
+        return Mark::Fresh;
+    }
+    Mark::Last(a, d)
+}
+
+// The seat that seven numbers mean, whatever they are: none of the desk's ranges is asked for.
+pub fn seat_of_numbers(
+    opened: u32,
+    account: u32,
+    kind: u32,
+    limit: u32,
+    marked: u32,
+    a: u32,
+    d: u32,
+) -> Seat
+    ensures { λ r. ⌜ r ≡ seatOfNumbers opened account kind limit marked a d ⌝ }
+{
+    if opened == 0 {
+        return closed_seat();
+    }
+    let of = kind_of(kind);
+    let mark = mark_of(marked, a, d);
+    let o = Open {
+        account: account,
+        kind: of,
+        limit: limit,
+        mark: mark,
+    };
+    let st = State::Open(o);
+    Seat { state: st }
 }

@@ -14,31 +14,31 @@ use Rattle.regions.specs.Sets.{isAt, deleted}
 use Rattle.regions.specs.Calls.{deleteNo}
 use Rattle.regions.proofs.Done.{delete-done}
 use Rattle.regions.proofs.Rising.{deleted-splits}
+use Rattle.pages.specs.Layout.{rootOf, heightOf, sharesOf, pageOf, fillOf}
 use Rattle.xrtree.specs.Tree.{Tree, regions, pagePlaces}
 use Rattle.xrtree.specs.Rules.{filled, rule6}
 use Rattle.xrtree.specs.Claims.{pageAt, Over}
 use Rattle.xrtree.specs.Holes.Post.{atEnd}
-use Rattle.pages.specs.Layout.{rootOf, heightOf, sharesOf, pageOf, fillOf}
 use Rattle.image.specs.Read.{depthOf, treeOf, setOf}
 use Rattle.image.specs.Valid.{valid}
 use Rattle.image.proofs.Small.{Small}
 use Rattle.image.proofs.Facts.{valid-facts}
+use Rattle.path.specs.Path.{pathFrom, pathOf, padded}
+use Rattle.path.proofs.Ways.{valid-sized}
 use Rattle.holding.proofs.Reading.{place-read}
 use Rattle.standing.specs.Stands.{top, nothingAround}
 use Rattle.standing.proofs.Whole.{valid-stands, stands-valid, set-is}
+use Rattle.roots.specs.WholeTree.{Whole, RootIs, Shrank}
 use Rattle.steps.specs.Steps.{size, KidsFilled}
-use Rattle.path.specs.Path.{pathFrom, pathOf, padded}
-use Rattle.path.proofs.Ways.{valid-sized}
+use Rattle.entries.specs.Changed.{Leaving, Left}
 use Rattle.room.specs.Ways.{Mended}
 use Rattle.room.proofs.Pages.{few-thin}
 use Rattle.room.proofs.Records.{room-whole}
 use Rattle.room.proofs.Sets.{SetFacts, deleted-facts, facts-few, valid-set}
 use Rattle.room.proofs.Fills.{to-root}
 use Rattle.room.proofs.Mending.{shrunk-root}
-use Rattle.entries.specs.Whole.{Whole, RootIs, Shrank}
-use Rattle.entries.specs.Changed.{Leaving, Left}
-use Rattle.remove.specs.Mends.{MendAsk, Leads}
 use Rattle.split.proofs.Seen.{q-range}
+use Rattle.remove.specs.Mends.{MendAsk, Leads}
 use Rattle.remove.proofs.Thinning.{ask-at, done-at}
 use Rattle.remove.proofs.Shrunk.{shrunk-below, shrunk-leaf}
 

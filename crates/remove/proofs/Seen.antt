@@ -17,7 +17,7 @@ use Rattle.path.specs.Path.{rankFrom, rankIn}
 use Rattle.path.proofs.Ranks.{rank-none, rank-here, rank-on}
 use Rattle.steps.specs.Steps.{size, ChildAt}
 use Rattle.split.proofs.Seen.{child-is, child-stands}
-use Rattle.split.proofs.Flagging.{entries-long}
+use Rattle.newkey.proofs.Flagging.{entries-long}
 use Rattle.room.specs.Ways.{OnWay}
 
 -- HOW MUCH A PAGE HOLDS

@@ -147,6 +147,6 @@ pub fn remove(img: &mut [u32], start: u32)
     mend(img, path, start, d - 1);
     let keys = pages::fill(img, path[0]);
     if keys == 0 {
-        entries::shrink_root(img);
+        roots::shrink_root(img);
     }
 }

@@ -1,7 +1,6 @@
 // Plays scripts of public calls and prints their answers. Each argument names a script, played from a fresh store; without arguments standard input is one.
 // A script is at most 1,048,576 bytes, one command a line; `script.rt` has the table of the commands. At a line that is none, `script N` is printed, N its number
 // from 1, and the script ends there; of one that is too long only `script 0`.
-mod script;
 mod seats;
 mod sets;
 
@@ -18,7 +17,7 @@ struct Store {
 }
 
 fn fresh() -> Store {
-    let s = seats::closed_seat();
+    let s = regions::closed_seat();
     let desk = [s; regions::SEAT_COUNT];
     Store {
         outer: pages::IMAGE_WORDS,

@@ -1,55 +1,13 @@
 // The calls on the desk, each with the numbers of its line and its answer printed. The eight seats go in by value and come back.
-use crate::script;
-use crate::script::Numbers;
-use regions::Kind;
-use regions::Mark;
-use regions::Open;
 use regions::Seat;
-use regions::State;
+use script::Numbers;
 
-// A kind by its number.
-pub fn kind_of(k: u32) -> Kind {
-    if k == 0 {
-        return Kind::Ancestor;
-    }
-    Kind::Parent
-}
-
-pub fn closed_seat() -> Seat {
-    let st = State::Closed;
-    Seat { state: st }
-}
-
-fn mark_of(marked: u32, a: u32, d: u32) -> Mark {
-    if marked == 0 {
-        return Mark::Fresh;
-    }
-    Mark::Last(a, d)
-}
-
-// A seat with the numbers of its line, whatever they are.
-fn written_seat(n: Numbers) -> Seat {
-    if n[1] == 0 {
-        return closed_seat();
-    }
-    let kind = kind_of(n[3]);
-    let mark = mark_of(n[5], n[6], n[7]);
-    let o = Open {
-        account: n[2],
-        kind: kind,
-        limit: n[4],
-        mark: mark,
-    };
-    let st = State::Open(o);
-    Seat { state: st }
-}
-
-// The seats with one of them written directly.
+// The seats with one of them written directly: the seat that the numbers mean, whatever they are.
 fn place(seats: [Seat; regions::SEAT_COUNT], n: Numbers) -> [Seat; regions::SEAT_COUNT] {
     let mut left = seats;
     let i = words::wide(n[0]);
     if i < 8 {
-        left[i] = written_seat(n);
+        left[i] = regions::seat_of_numbers(n[1], n[2], n[3], n[4], n[5], n[6], n[7]);
     }
     left
 }
@@ -64,7 +22,7 @@ pub fn call(
         return place(seats, n);
     }
     if what == script::SEAT {
-        let o = desk::open_seat_by_value(seats, n[0], n[1], kind_of(n[2]), n[3]);
+        let o = desk::open_seat_by_value(seats, n[0], n[1], regions::kind_of(n[2]), n[3]);
         console::line(&[o.number]);
         return o.seats;
     }

@@ -1,10 +1,8 @@
 // The calls on images, each with the numbers of its line and its answer printed.
 ghost use Prim.Native.Nat.{_≤_};
-use crate::script;
-use crate::script::Numbers;
-use crate::seats;
-use index::Parent;
+use queries::Parent;
 use regions::Region;
+use script::Numbers;
 
 // The smaller of a size and what there is.
 pub fn least(n: usize, most: usize) -> usize
@@ -35,7 +33,7 @@ fn save(img: &mut [u32], n: Numbers) {
 
 fn ancestors(img: &[u32], n: Numbers, answers: &mut [u32]) {
     let room = least(words::wide(n[3]), answers.len());
-    let r = index::find_ancestors(img, n[1], n[2], &mut answers[0..room]);
+    let r = queries::find_ancestors(img, n[1], n[2], &mut answers[0..room]);
     console::line(&[r.number, console::narrow(r.total)]);
     console::rows(&answers[0..room], r.total);
 }
@@ -43,12 +41,12 @@ fn ancestors(img: &[u32], n: Numbers, answers: &mut [u32]) {
 // The same search with no room, for its step count.
 fn steps(img: &[u32], n: Numbers, answers: &mut [u32]) {
     let none: usize = 0;
-    let r = index::find_ancestors(img, n[1], n[2], &mut answers[0..none]);
+    let r = queries::find_ancestors(img, n[1], n[2], &mut answers[0..none]);
     console::line(&[r.number, console::narrow(r.total), console::narrow(r.steps)]);
 }
 
 fn parent(img: &[u32], n: Numbers) {
-    let p = index::find_parent(img, n[1], n[2], n[3]);
+    let p = queries::find_parent(img, n[1], n[2], n[3]);
     match p {
         Parent::Refused(number) => console::line(&[number, 0]),
         Parent::Nothing => console::line(&[0, 0]),
@@ -63,14 +61,14 @@ fn told(more: bool) -> u32 {
 
 fn descendants(img: &[u32], n: Numbers, answers: &mut [u32]) {
     let room = least(words::wide(n[5]), answers.len());
-    let r = index::find_descendants(img, n[1], n[2], n[3], n[4], &mut answers[0..room]);
+    let r = queries::find_descendants(img, n[1], n[2], n[3], n[4], &mut answers[0..room]);
     console::line(&[r.number, console::narrow(r.count), told(r.more)]);
     console::rows(&answers[0..room], r.count);
 }
 
 fn children(img: &[u32], n: Numbers, answers: &mut [u32]) {
     let room = least(words::wide(n[6]), answers.len());
-    let r = index::find_children(img, n[1], n[2], n[3], n[4], n[5], &mut answers[0..room]);
+    let r = queries::find_children(img, n[1], n[2], n[3], n[4], n[5], &mut answers[0..room]);
     console::line(&[r.number, console::narrow(r.count), told(r.more)]);
     console::rows(&answers[0..room], r.count);
 }
@@ -116,8 +114,8 @@ pub fn call(img: &mut [u32], what: usize, n: Numbers, answers: &mut [u32]) {
 // The join of two images, which may be one and the same.
 pub fn join(outer: &[u32], inner: &[u32], n: Numbers, answers: &mut [u32]) {
     let room = least(words::wide(n[4]), answers.len());
-    let kind = seats::kind_of(n[3]);
-    let r = index::join_sets(outer, inner, n[2], kind, &mut answers[0..room]);
+    let kind = regions::kind_of(n[3]);
+    let r = queries::join_sets(outer, inner, n[2], kind, &mut answers[0..room]);
     console::line(&[r.number, console::narrow(r.total)]);
     console::rows(&answers[0..room], r.total);
 }

@@ -8,7 +8,7 @@ use native.Mathlib.Omega.{arith}
 use Rattle.regions.specs.declared.Region.{Region}
 use Rattle.xrtree.specs.Tree.{Key, Leaf, Tree, listRegions, listPages, pagePlaces, recordPlaces}
 use Rattle.xrtree.specs.Holes.{loAfter, Post, fill, hiPost}
-use Rattle.xrtree.proofs.Whole.{before, after, listed-parts, listed-plug}
+use Rattle.xrtree.proofs.Holes.{before, after, listed-parts, listed-plug}
 use Rattle.standing.specs.Stands.{Around, Stands, Spares}
 use Rattle.standing.proofs.Child.{aroundHole, stands-hole, stands-again, spares-whole}
 use Rattle.steps.specs.Steps.{rekeyed, ChildAt, pageHere, Split, PairAt, Merged}

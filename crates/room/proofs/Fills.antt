@@ -154,5 +154,3 @@ module _ {A : Type 0} where
         ((λ l. absurd (let g = w .0 .0 in omega arith)), (λ g. (o .0 .0, hole-but pre (atKey k cs last) t (w .0 .1, w .1) (o .0 .1, o .1) n)))
     hole-but (c ∷ pre) atEnd t w o n =
         ((λ l. absurd (let g = w .0 .0 in omega arith)), (λ g. (o .0 .0, hole-but pre atEnd t (w .0 .1, w .1) (o .0 .1, o .1) n)))
-
--- A TREE THAT IS RIGHTLY FILLED is so along every way

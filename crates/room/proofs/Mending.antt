@@ -21,8 +21,6 @@ use Rattle.room.proofs.Fills.{kids-every, of-filled, to-filled, as-root
 use Rattle.room.proofs.Becoming.{becomes-both, beside, becomes-page, pages-swap, pages-child, splitPage, split-becomes, mergedPage, merged-becomes}
 use Rattle.room.proofs.Spreading.{kids-right, moved-most, size-split}
 
--- A CHILD ON THE WAY: a leaf as it is, a page as it was mended below
-
 pub thinned-page : (w w′ : List ℕ) (rs : List Region) (x h lo hi : ℕ) (o : Around) (t : Tree (suc h)) → Way 3 8 x (suc h) t → Mended w w′ rs h lo hi o t → Thinned w w′ rs (suc h) lo hi o t
 thinned-page w w′ rs x h lo hi o t y s =
     record { after = s .after; becomes = s .becomes; filled = s .filled; least = omega (arith, s .least, y .0); most = omega (arith, s .most, y .1); pages = s .pages }
@@ -204,8 +202,6 @@ module _ {A : Type 0} where
     pub kids : List (A × Key)
     pub last : A
     pub whole : post ≡ atKey key kids last
-
--- THE ROOT: with a key left, it is right; with none, its only child is the new root
 
 pub shrunk-root : (h : ℕ) (t : Tree (suc h)) → KidsFilled (suc h) t → size (suc h) t ≡ 0 → (t ≡ pageAt (t .place) [] (t .last)) × T (filled h (t .last))
 shrunk-root h t k e = (ap (λ z. pageAt (t .place) z (t .last)) (none (t .kids) e), as-root h (t .last) (only (t .kids) e (kids-every (filledBelow h) (t .kids) (t .last) k)))

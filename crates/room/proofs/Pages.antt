@@ -11,7 +11,7 @@ use Rattle.xrtree.specs.Tree.{Key, Leaf, Tree, Listing, weave, listed, listPage
 use Rattle.xrtree.specs.Rules.{filledBelow, filled}
 use Rattle.xrtree.specs.Claims.{regionsIn}
 use Rattle.xrtree.specs.Holes.{up, Ctx, plug}
-use Rattle.xrtree.proofs.Whole.{before, after, listed-parts}
+use Rattle.xrtree.proofs.Holes.{before, after, listed-parts}
 use Rattle.holding.specs.Held.{EveryKid}
 use Rattle.standing.specs.Stands.{Around}
 use Rattle.standing.proofs.Child.{aroundHole}

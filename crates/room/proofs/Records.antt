@@ -19,7 +19,7 @@ use Rattle.xrtree.proofs.Box.{to-box}
 use Rattle.xrtree.proofs.Count.{inner-three}
 use Rattle.xrtree.proofs.Here.{here-child, here-next}
 use Rattle.xrtree.specs.Holes.{loAfter, Post, fillKids, fillLast, hiPost, up, Ctx, plug, loAt, hiAt}
-use Rattle.xrtree.proofs.Whole.{before, after, beforeKids, afterKids, hole-page}
+use Rattle.xrtree.proofs.Holes.{before, after, beforeKids, afterKids, hole-page}
 use Rattle.xrtree.specs.Holes.Post.{atKey, atEnd}
 use Rattle.pages.specs.declared.KeyWords.{KeyWords}
 use Rattle.pages.specs.Layout.{pageOf, fillOf, pageUsed, recordUsed}

@@ -11,12 +11,11 @@ use native.Mathlib.Decide.{decLt, ℕ-discrete}
 use Rattle.words.specs.Lists.{All, all, allPairs, filter, sum}
 use Rattle.words.proofs.Tests.{of-T, T-of, and-left, and-right, and-both}
 use Rattle.words.proofs.Listed.{all-mono, filter-none}
-use Rattle.words.proofs.Says.{Says, all-says, pairs-say, lt-says}
+use Rattle.words.proofs.Says.{Says, all-says, pairs-say, lt-says, so-false}
 use Rattle.regions.specs.declared.Region.{Region}
 use Rattle.regions.specs.Positions.{account, wellFormed, nested}
 use Rattle.regions.specs.Sets.{Set, of, heldBy, shareOf, startsBefore, startsBehind, saved, deleted}
 use Rattle.regions.specs.Calls.{saveNo, deleteNo}
-use Rattle.regions.proofs.Extra.{so-false}
 use Rattle.regions.proofs.Means.{of-says}
 use Rattle.regions.specs.Sound.{Wf, Rising, Sound}
 use Rattle.regions.proofs.Done.{save-done}

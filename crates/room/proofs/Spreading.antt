@@ -19,8 +19,6 @@ use Rattle.room.specs.Ways.{Filled, Behind, Others, keysBehind, PageRoom
 use Rattle.room.proofs.Fills.{every-kids, to-filled, to-root, fill-every, behind-rekeyed, size-fill, size-rekeyed}
 use Rattle.room.proofs.Becoming.{becomes-both, beside, becomes-page, pages-swap, pages-child, splitPage, split-becomes}
 
--- A CHILD ON THE WAY: a leaf as it is, a page as it was spread below
-
 -- a page whose children are right but one, and that one is right
 pub kids-right : (h q : ℕ) (pre : List (Tree h × Key)) (post : Post (Tree h)) (c : Tree h) → Others (Filled h) pre post → Filled h c → KidsFilled (suc h) (fill q pre post c)
 kids-right h q pre post c o f = every-kids (filledBelow h) (fillKids pre post c) (fillLast post c) (fill-every (Filled h) pre post c o f)

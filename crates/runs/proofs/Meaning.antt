@@ -22,7 +22,7 @@ use Rattle.image.specs.Read.{setOf as setIn}
 use Rattle.image.specs.Valid.{valid}
 use Rattle.pages.specs.Layout.{imageWords}
 use Rattle.index.specs.Opening.{openNo}
-use Rattle.index.specs.Searches.{parentNumber, parentFound}
+use Rattle.queries.specs.Searches.{parentNumber, parentFound}
 use Rattle.index.proofs.Empty.{opens-valid}
 use Rattle.plainruns.specs.Calls.{Which, State, setOf, withSet, withDesk, Call, Shown, Answer, says, refuses, lists, pages, finds, joins, handsBack, looked, answer, noted, unnoted, next, Step, Done, Run, Opened}
 use Rattle.plainruns.specs.Calls.Which.{outer, inner}

@@ -24,7 +24,7 @@ use Rattle.image.specs.Read.{entriesFrom, readTree, depthOf, treeOf, setOf}
 use Rattle.image.specs.Valid.{sized, rule7, treeRules, valid}
 use Rattle.index.specs.Opening.{openedImage}
 use Rattle.index.specs.Changes.{Saves, Deletes}
-use Rattle.index.specs.Searches.{FindsAncestors}
+use Rattle.queries.specs.Searches.{FindsAncestors}
 use Rattle.index.proofs.Opened.{open-done}
 use Rattle.index.proofs.Empty.{none-placed, one-placed, opened-word, opened-set, opened-valid}
 use Rattle.plainruns.specs.Calls.{Done}

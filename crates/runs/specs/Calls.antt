@@ -16,11 +16,11 @@ use Rattle.regions.specs.Numbers.{DONE}
 use Rattle.regions.specs.Desk.{closed, openAt, seatAt, seatWord}
 use Rattle.image.specs.Read.{setOf}
 use Rattle.image.specs.Valid.{valid}
-use Rattle.index.specs.declared.Parent.{Parent}
+use Rattle.queries.specs.declared.Parent.{Parent}
 use Rattle.index.specs.Opening.{OpensSet}
 use Rattle.index.specs.Changes.{Saves, Deletes}
-use Rattle.index.specs.Searches.{FindsAncestors, FindsParent, FindsDescendants, FindsChildren, parentNumber, parentFound}
-use Rattle.index.specs.Joins.{JoinsSets}
+use Rattle.queries.specs.Searches.{FindsAncestors, FindsParent, FindsDescendants, FindsChildren, parentNumber, parentFound}
+use Rattle.queries.specs.Joins.{JoinsSets}
 use Rattle.desk.specs.Promises.{OpensDesk, OpensSeat, ClosesSeat, Rounds, LendsPart, PartNumber}
 use Rattle.plainruns.specs.Calls.{Which, State, Call, Shown, Answer, Done, left, Served, Passed}
 use Rattle.plainruns.specs.Calls.Which.{outer, inner}

@@ -16,12 +16,12 @@ use Rattle.image.specs.Read.{keyAt, kidsFrom, readTree, depthOf, treeOf}
 use Rattle.image.specs.Fills.{Fills, rootLeast}
 use Rattle.path.specs.Path.{rankFrom, rankIn, childFor, pathOf, downTo, padded}
 use Rattle.path.proofs.Ways.{path-long, path-at, down-more, down-none, fills-at, fills-here}
-use Rattle.search.specs.declared.Task.{Task}
-use Rattle.search.specs.declared.Tally.{Tally}
-use Rattle.search.specs.Tallies.{Tallied, stepped, freshTally}
-use Rattle.search.specs.Parts.{listsFrom, listsLookedFrom, listsMet, listsLooked, leafMet}
-use Rattle.search.proofs.Tallies.{tallied-step, tallied-then, Leads, leads-all, leads-on, leads-last}
-use Rattle.search.proofs.Parts.{lists-few, lists-looked-few}
+use Rattle.tally.specs.declared.Task.{Task}
+use Rattle.tally.specs.declared.Tally.{Tally}
+use Rattle.tally.specs.Tallies.{Tallied, stepped, freshTally}
+use Rattle.meets.specs.PageMet.{listsFrom, listsLookedFrom, listsMet, listsLooked, leafMet}
+use Rattle.meets.proofs.Tallies.{Leads, leads-all, tallied-step, tallied-then, leads-on, leads-last}
+use Rattle.search.proofs.PathMet.{lists-few, lists-looked-few}
 
 -- A PAGE: its lists, and then the child on the path
 module _ {A : Type 0} (child : ℕ → A) (w : List ℕ) (p : ℕ) (ws : List ℕ) where

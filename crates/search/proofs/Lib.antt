@@ -1,6 +1,4 @@
-pub mod Tallies
-pub mod Parts
-pub mod Turns
+pub mod PathMet
 pub mod Down
 pub mod Right
 pub mod Tops

@@ -14,11 +14,11 @@ use Rattle.regions.specs.Calls.{regionWords, ancestors, innermost, parent}
 use Rattle.regions.specs.Sets.{Set}
 use Rattle.regions.specs.declared.Region.{Region}
 use Rattle.answers.proofs.Items.{from-first}
-use Rattle.search.specs.declared.Found.the-variants.{Nothing, At}
-use Rattle.search.specs.declared.Task.the-variants.{List as Listing, Above}
-use Rattle.search.specs.declared.Tally.{Tally}
-use Rattle.search.specs.Tasks.{accepts}
-use Rattle.search.specs.Tallies.{foundList, lastFound, taken, Tallied, freshTally, AncestorsFound}
+use Rattle.tally.specs.declared.Found.the-variants.{Nothing, At}
+use Rattle.tally.specs.declared.Task.the-variants.{List as Listing, Above}
+use Rattle.tally.specs.declared.Tally.{Tally}
+use Rattle.tally.specs.Tasks.{accepts}
+use Rattle.tally.specs.Tallies.{foundList, lastFound, taken, Tallied, freshTally, AncestorsFound}
 
 -- ANCESTOR SEARCH
 taken-all : (xs : List Region) → taken Listing xs ≡ xs

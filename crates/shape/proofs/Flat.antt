@@ -10,10 +10,11 @@ use native.Mathlib.Omega.{arith}
 use Rattle.words.specs.Lists.{all}
 use Rattle.words.proofs.Tests.{and-false, lt-yes}
 use Rattle.xrtree.specs.Tree.{Item}
-use Rattle.shape.specs.Run.{Event, code, wrong, stepPage, stepLeaf, stepCode, step, run, finished}
+use Rattle.passes.specs.Run.{wrong, stepPage, stepLeaf, stepCode, finished}
+use Rattle.passes.specs.declared.Passed.{Passed}
+use Rattle.shape.specs.Run.{Event, code, step, run}
 use Rattle.shape.specs.Run.Event.{page, leaf, item}
-use Rattle.shape.specs.declared.Passed.{Passed}
-use Rattle.shape.proofs.Steps.{run-wrong}
+use Rattle.shape.proofs.Run.{run-wrong}
 
 abbrev pub each : {A B : Type 0} → (A → List B) → List A → List B
 each f [] = []

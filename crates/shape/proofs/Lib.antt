@@ -1,4 +1,4 @@
-pub mod Steps
+pub mod Run
 pub mod Turns
 pub mod Flat
 pub mod Follow

@@ -8,12 +8,13 @@ use lib.Dec.{leb, ltb}
 use lib.ListN.{getD}
 use native.Mathlib.Omega.{arith}
 use Rattle.words.proofs.Tests.{of-T, T-of, and-right, eq-yes, eq-no, le-yes, le-no, le-of}
-use Rattle.xrtree.specs.Tree.Item.{start, key}
 use Rattle.pages.specs.Layout.{pageOf, markOf, fillOf, nextOf, entryWord, keyWord, childIn, pageUsed}
-use Rattle.shape.specs.Run.{Event, wrong, code, stepPage, stepLeaf, stepCode, step, run, pageRight, startEvents, leafEvents, innerEvents, eventsAt, usedTo}
+use Rattle.xrtree.specs.Tree.Item.{start, key}
+use Rattle.passes.specs.Run.{wrong, stepPage, stepLeaf, stepCode}
+use Rattle.passes.specs.declared.Passed.{Passed}
+use Rattle.shape.specs.Run.{Event, code, step, run, pageRight, startEvents, leafEvents, innerEvents, eventsAt, usedTo}
 use Rattle.shape.specs.Run.Event.{page, item}
-use Rattle.shape.specs.declared.Passed.{Passed}
-use Rattle.shape.proofs.Steps.{run-wrong, run-append, run-one}
+use Rattle.shape.proofs.Run.{run-wrong, run-append, run-one}
 
 -- A PAGE
 used-yes : (w : List ℕ) (p m : ℕ) → m ≡ markOf (pageOf w p) → (m ≡ 0 → ⊥) → pageUsed w p ≡ true

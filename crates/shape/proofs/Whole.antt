@@ -11,18 +11,19 @@ use Rattle.words.specs.Lists.{All, Pairs, all, allPairs}
 use Rattle.words.proofs.Tests.{T-of, both, and-left, and-right, and-both, eq-yes, eq-no, le-yes, le-no}
 use Rattle.words.proofs.Listed.{all-mono, all-two}
 use Rattle.words.proofs.Says.{pairs-say}
+use Rattle.pages.specs.Layout.{pageOf, fillOf, heightOf, rootOf, pageUsed}
 use Rattle.xrtree.specs.Tree.{Entry, Tree, listItems, regions, leaves, items, pagePlaces}
 use Rattle.xrtree.specs.Tree.Item.{start}
 use Rattle.xrtree.specs.Rules.{filled, linked, startsFirst, separates, rule1, rule2, placed}
-use Rattle.pages.specs.Layout.{pageOf, fillOf, heightOf, rootOf, pageUsed}
 use Rattle.image.specs.Read.{entriesFrom, readTree}
 use Rattle.image.specs.Valid.{sized}
 use Rattle.image.specs.Shape.{shapely}
 use Rattle.image.specs.Fills.{FillsFrom, rootLeast}
 use Rattle.image.proofs.Fills.{filled-fills}
 use Rattle.image.proofs.Listings.{listedAt, listed-leaf}
-use Rattle.shape.specs.Run.{Event, run, finished, eventsAt, usedTo}
-use Rattle.shape.specs.declared.Passed.{Passed}
+use Rattle.passes.specs.Run.{finished}
+use Rattle.passes.specs.declared.Passed.{Passed}
+use Rattle.shape.specs.Run.{Event, run, eventsAt, usedTo}
 use Rattle.shape.proofs.Flat.{each, tests, points, links, ascends, chained, going, decides}
 use Rattle.shape.proofs.Follow.{points-of, links-of, links-linked, startIn, starts-same, starts-pairs}
 use Rattle.shape.proofs.Filling.{Held, tests-fills, fills-tests, tests-length, so-filled}

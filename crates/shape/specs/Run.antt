@@ -1,15 +1,15 @@
 -- The pass over the tree, as a run over a flat list of events that the code follows.
 -- Assumes nothing.
-use Prim.Native.Nat.{ℕ, zero, suc, _+_, _-_, _*_}
-use mathlib.Core.Bool.{Bool, true, false, _&&_, _||_, cond}
+use Prim.Native.Nat.{ℕ, zero, suc, _+_, _*_}
+use mathlib.Core.Bool.{Bool, _&&_, cond}
 use mathlib.Core.List.{List, [], _∷_, _++_}
-use lib.Dec.{leb, ltb, eqb}
 use lib.ListN.{getD}
 use Rattle.xrtree.specs.Tree.{Item}
 use Rattle.xrtree.specs.Tree.Item.{start, key}
 use Rattle.xrtree.specs.Rules.{within}
 use Rattle.pages.specs.Layout.{pageCount, pageOf, fillOf, nextOf, entryWord, keyWord, childIn, pageUsed}
-use Rattle.shape.specs.declared.Passed.{Passed}
+use Rattle.passes.specs.declared.Passed.{Passed}
+use Rattle.passes.specs.Run.{stepPage, stepLeaf, stepCode}
 
 -- a page that is right or wrong; a leaf, with the place of the leaf on its right; a start or a key
 pub data Event : Type 0 where
@@ -22,23 +22,6 @@ unfoldable pub code : Item → ℕ
 code (start s) = 2 * s + 1
 code (key k) = 2 * k
 
--- the one state after a failed test
-abbrev pub wrong : Passed
-wrong = record { ok = false; link = 0; low = 0; left = 0 }
-
--- what each event does to a state, and that no event mends a wrong one
-unfoldable pub stepPage : Bool → Passed → Passed
-stepPage g s = cond (s .ok) (cond (g && ltb 0 (s .left)) (record { ok = true; link = s .link; low = s .low; left = s .left - 1 }) wrong) wrong
-
-unfoldable pub stepLeaf : ℕ → ℕ → Passed → Passed
-stepLeaf p next s =
-    cond (s .ok)
-    (cond (eqb (s .link) 0 || eqb (s .link) (p + 1)) (record { ok = true; link = next + 1; low = s .low; left = s .left }) wrong)
-    wrong
-
-unfoldable pub stepCode : ℕ → Passed → Passed
-stepCode c s = cond (s .ok) (cond (leb (s .low) c) (record { ok = true; link = s .link; low = c + 1; left = s .left }) wrong) wrong
-
 unfoldable pub step : Event → Passed → Passed
 step (page g) s = stepPage g s
 step (leaf p next) s = stepLeaf p next s
@@ -47,10 +30,6 @@ step (item x) s = stepCode (code x) s
 unfoldable pub run : List Event → Passed → Passed
 run [] s = s
 run (e ∷ es) s = run es (step e s)
-
--- at the end: no test failed, the last leaf led nowhere, no page was left over
-unfoldable pub finished : Passed → Bool
-finished s = s .ok && (eqb (s .link) 1 && eqb (s .left) 0)
 
 -- a page in range, in use, and rightly filled
 unfoldable pub pageRight : List ℕ → ℕ → ℕ → Bool

@@ -18,7 +18,7 @@ use Rattle.xrtree.specs.Rules.{linked}
 use Rattle.xrtree.specs.Claims.{Over, Fits}
 use Rattle.xrtree.specs.Local.{Here, Part}
 use Rattle.xrtree.specs.Holes.{fill}
-use Rattle.xrtree.proofs.Whole.{beforeKids, afterKids}
+use Rattle.xrtree.proofs.Holes.{beforeKids, afterKids}
 use Rattle.pages.specs.Layout.{rootOf, heightOf, sharesOf, pageOf, markOf, recordOf, pageUsed, recordUsed}
 use Rattle.store.proofs.Kept.{page-used-same, record-used-same}
 use Rattle.holding.specs.Held.{placeOf, PageHeld, Held}

@@ -6,13 +6,13 @@ use mathlib.Core.List.{List}
 use lib.ListN.{length, take, drop}
 use native.Mathlib.Omega.{arith}
 use Rattle.pages.specs.Layout.{pageOf, markOf, fillOf, nextOf, childIn, pageUsed}
-use Rattle.steps.specs.Steps.{Split}
 use Rattle.store.specs.Store.{FirstFree}
 use Rattle.newpages.specs.Pages.{keysOf, childrenOf, IsInner}
+use Rattle.steps.specs.Steps.{Split}
+use Rattle.raising.specs.Moves.{RaiseReady, Raised, EnterReady, Entered}
+use Rattle.raising.specs.declared.Risen.{Risen}
 use Rattle.split.specs.Stored.{Stored}
-use Rattle.split.specs.Moves.{RaiseReady, Raised, EnterReady, Entered}
 use Rattle.split.specs.Ready.{InnerReady}
-use Rattle.split.specs.declared.Risen.{Risen}
 use Rattle.split.proofs.Assemble.{assemble}
 use Rattle.split.proofs.Seen.{i-fits, free-page}
 use Rattle.split.proofs.Inners.{inner-few, inner-more, raise-ready, inner-enter, inner-made}

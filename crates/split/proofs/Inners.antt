@@ -9,31 +9,31 @@ use lib.Seq.{take-at, drop-append-add}
 use native.Mathlib.Omega.{arith}
 use Rattle.words.specs.Lists.{count}
 use Rattle.words.proofs.Counted.{count-append}
+use Rattle.pages.specs.Layout.{pageOf, markOf, fillOf, nextOf}
+use Rattle.pages.specs.declared.KeyWords.{KeyWords}
 use Rattle.xrtree.specs.Tree.{Key, Leaf, Tree, weave, listed, keysIn, listPages, listRecords, regions, leaves}
 use Rattle.xrtree.specs.Rules.{linked, filledBelow}
 use Rattle.xrtree.specs.Claims.{pageAt, Claim}
 use Rattle.xrtree.specs.Local.{NoLeaf, Part, FirstIs}
 use Rattle.xrtree.specs.Holes.{loAfter, Post, fill, fillKids, hiPost}
 use Rattle.xrtree.specs.Moves.{keyWith, trim, raised, raisedPlaces}
-use Rattle.xrtree.proofs.Splice.{page-at}
 use Rattle.xrtree.specs.Holes.Post.{atKey, atEnd}
-use Rattle.pages.specs.Layout.{pageOf, markOf, fillOf, nextOf}
-use Rattle.pages.specs.declared.KeyWords.{KeyWords}
+use Rattle.xrtree.proofs.Splice.{page-at}
+use Rattle.newpages.specs.Pages.{keysOf, childrenOf, IsInner}
 use Rattle.holding.specs.Held.{KeyHeld, KeysHeld, kidPlaces, EveryKid, placeOf, PageHeld, Held, keyRecords}
 use Rattle.holding.proofs.Frames.{keys-frame}
+use Rattle.records.specs.Touched.{Touched}
+use Rattle.records.proofs.Marks.{none-in, touched-then}
 use Rattle.standing.specs.Stands.{Roomy}
 use Rattle.steps.specs.Steps.{KidsFilled, nextPlaces}
 use Rattle.steps.proofs.Stays.{HeldAs}
-use Rattle.newpages.specs.Pages.{keysOf, childrenOf, IsInner}
-use Rattle.records.specs.Touched.{Touched}
-use Rattle.records.proofs.Marks.{none-in, touched-then}
-use Rattle.split.specs.Sides.{topped, nextCut}
-use Rattle.split.specs.Moves.{RaiseReady, Raised, EnterReady, Entered}
+use Rattle.raising.specs.Sides.{topped, nextCut}
+use Rattle.raising.specs.Moves.{RaiseReady, Raised, EnterReady, Entered}
+use Rattle.raising.specs.declared.Risen.{Risen}
+use Rattle.raising.proofs.Keys.{records-count, keys-split, untouched, trim-counts}
 use Rattle.split.specs.Ready.{InnerReady}
-use Rattle.split.specs.declared.Risen.{Risen}
 use Rattle.split.proofs.Parts.{inner-part}
 use Rattle.split.proofs.Assemble.{Made}
-use Rattle.split.proofs.Keys.{records-count, keys-split, untouched, trim-counts}
 use Rattle.split.proofs.Seen.{cut-same, child-stands, q-mark, p-mark, records-once, enter-ready, long-more, topped-counts}
 use Rattle.split.proofs.Cuts.{Mid, mid-at, trim-long, keys-cut, places-left, places-right, every-cut, all-cut, listed-cut}
 

@@ -6,17 +6,18 @@ use mathlib.Core.Logic.{_≢_}
 use mathlib.Core.List.{List}
 use lib.ListN.{length, take, drop}
 use native.Mathlib.Omega.{arith}
-use Rattle.xrtree.specs.Rules.{keyBetween}
-use Rattle.xrtree.proofs.Extra.{key-between}
 use Rattle.pages.specs.Layout.{pageOf, markOf, fillOf, nextOf, childIn, pageUsed}
 use Rattle.pages.specs.declared.KeyWords.{KeyWords}
+use Rattle.xrtree.specs.Rules.{keyBetween}
+use Rattle.xrtree.proofs.CutLeaf.{key-between}
 use Rattle.image.specs.Read.{entryAt, entriesFrom}
-use Rattle.holding.specs.Held.{placeOf}
-use Rattle.steps.specs.Steps.{ChildAt, Split}
 use Rattle.store.specs.Store.{FirstFree}
 use Rattle.newpages.specs.Pages.{entriesOf, sparesOf, IsLeaf}
+use Rattle.holding.specs.Held.{placeOf}
+use Rattle.newkey.specs.Moves.{Gathered, Flagged, GatherReady}
+use Rattle.steps.specs.Steps.{ChildAt, Split}
+use Rattle.raising.specs.Moves.{EnterReady, Entered}
 use Rattle.split.specs.Stored.{Stored}
-use Rattle.split.specs.Moves.{Gathered, GatherReady, Flagged, EnterReady, Entered}
 use Rattle.split.specs.Ready.{LeafReady}
 use Rattle.split.proofs.Assemble.{assemble}
 use Rattle.split.proofs.Seen.{q-range, p-range, p-not-q, i-fits, child-is, FreePage, free-page}

@@ -13,34 +13,35 @@ use Rattle.words.proofs.Counted.{count-append}
 use Rattle.words.proofs.Listed.{all-mono, all-two, all-take, all-drop, pairs-mono, pairs-right, map-append}
 use Rattle.regions.specs.Positions.{stabs}
 use Rattle.regions.specs.declared.Region.{Region}
+use Rattle.pages.specs.Layout.{pageOf, markOf, fillOf, nextOf}
+use Rattle.pages.specs.declared.KeyWords.{KeyWords}
 use Rattle.xrtree.specs.Tree.{Entry, Leaf, listed, regionOf, regions}
 use Rattle.xrtree.specs.Claims.{leafAt, Over, Fits, Within}
 use Rattle.xrtree.specs.Local.{Here, Part}
 use Rattle.xrtree.specs.Holes.{loAfter, fill, hiPost}
 use Rattle.xrtree.specs.Moves.{keyWith, marked, fresh}
+use Rattle.xrtree.specs.Rules.{keyBetween}
 use Rattle.xrtree.proofs.Split.{regions-marked}
 use Rattle.xrtree.proofs.Merge.{all-unmap}
-use Rattle.xrtree.specs.Rules.{keyBetween}
-use Rattle.xrtree.proofs.Extra.{cut, fresh-first, fresh-append, marked-later}
-use Rattle.pages.specs.Layout.{pageOf, markOf, fillOf, nextOf}
-use Rattle.pages.specs.declared.KeyWords.{KeyWords}
+use Rattle.xrtree.proofs.CutLeaf.{cut, fresh-first, fresh-append, marked-later}
 use Rattle.image.specs.Read.{entryAt, entriesFrom}
-use Rattle.holding.specs.Held.{KeyHeld, LeafHeld}
-use Rattle.standing.specs.Stands.{top}
-use Rattle.standing.proofs.Counting.{counted-all}
-use Rattle.steps.specs.Steps.{rekeyed, nextPlaces, startsOf}
 use Rattle.newpages.specs.Pages.{entriesOf, sparesOf, IsLeaf}
 use Rattle.newpages.proofs.Read.{entries-up, entry-in, last-append}
 use Rattle.newpages.proofs.Items.{up-take}
+use Rattle.holding.specs.Held.{KeyHeld, LeafHeld}
 use Rattle.records.proofs.Marks.{none-in, touched-then}
-use Rattle.split.specs.Sides.{topped, nextCut}
-use Rattle.split.specs.Moves.{Gathered, GatherReady, Flagged, EnterReady, Entered}
+use Rattle.standing.specs.Stands.{top}
+use Rattle.standing.proofs.Counting.{counted-all}
+use Rattle.newkey.specs.Moves.{Gathered, Flagged, GatherReady}
+use Rattle.newkey.proofs.Gathering.{entries-all}
+use Rattle.newkey.proofs.Flagging.{map-long, entries-long}
+use Rattle.steps.specs.Steps.{rekeyed, nextPlaces, startsOf}
+use Rattle.raising.specs.Sides.{topped, nextCut}
+use Rattle.raising.specs.Moves.{EnterReady, Entered}
 use Rattle.split.specs.Ready.{unlisted, LeafReady}
 use Rattle.split.proofs.Parts.{leaf-part}
 use Rattle.split.proofs.Stays.{linked-two}
 use Rattle.split.proofs.Assemble.{Made}
-use Rattle.split.proofs.Gathering.{entries-all}
-use Rattle.split.proofs.Flagging.{map-long, entries-long}
 use Rattle.split.proofs.Seen.{cut-same, child-stands, q-mark, p-mark, used-all, fresh-apart, enter-ready, long-more, topped-counts}
 
 -- LISTS

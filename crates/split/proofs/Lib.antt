@@ -2,12 +2,7 @@ pub mod Parts
 pub mod Listed
 pub mod Stays
 pub mod Assemble
-pub mod Gathering
 pub mod Storing
-pub mod Flagging
-pub mod Keys
-pub mod Entering
-pub mod Raising
 pub mod Seen
 pub mod Leafs
 pub mod LeafCalls

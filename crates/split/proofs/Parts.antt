@@ -13,7 +13,7 @@ use Rattle.xrtree.specs.Moves.{keyWith, marked, trim, raised, fresh}
 use Rattle.xrtree.specs.Holes.Post.{atKey, atEnd}
 use Rattle.xrtree.proofs.Split.{part-at, part-end, leaf-split-mid, leaf-split-last, inner-split-mid, inner-split-last}
 use Rattle.steps.specs.Steps.{rekeyed}
-use Rattle.split.specs.Sides.{topped, nextCut}
+use Rattle.raising.specs.Sides.{topped, nextCut}
 
 -- a page with one child more, from that child on
 pub kids-more : {A : Type 0} (pre : List (A × Key)) (post : Post A) (l r : A) (k : Key) → fillKids (pre ++ (l, k) ∷ []) post r ≡ pre ++ (l, k) ∷ fillKids [] post r

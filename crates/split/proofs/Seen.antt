@@ -15,7 +15,7 @@ use Rattle.regions.specs.declared.Region.{Region}
 use Rattle.xrtree.specs.Tree.{Key, weave, listed, listPages, listRecords, pagePlaces, recordPlaces}
 use Rattle.xrtree.specs.Holes.{loAfter, Post, fillKids, fillLast, hiPost}
 use Rattle.xrtree.specs.Moves.{keyWith}
-use Rattle.xrtree.proofs.Whole.{beforeKids, afterKids}
+use Rattle.xrtree.proofs.Holes.{beforeKids, afterKids}
 use Rattle.xrtree.specs.Holes.Post.{atKey, atEnd}
 use Rattle.pages.specs.Layout.{pageOf, markOf, fillOf, childIn, pageUsed, recordUsed}
 use Rattle.pages.specs.declared.KeyWords.{KeyWords}
@@ -33,9 +33,10 @@ use Rattle.newpages.specs.Pages.{keysOf}
 use Rattle.newpages.proofs.Read.{child-in}
 use Rattle.records.specs.Touched.{Touched, inUse, Uses}
 use Rattle.records.proofs.Marks.{none-in}
-use Rattle.split.specs.Sides.{toppedPlaces, nextCut}
-use Rattle.split.specs.Moves.{usedRecords, EnterReady}
-use Rattle.split.proofs.Keys.{untouched, count-two}
+use Rattle.raising.specs.Sides.{toppedPlaces, nextCut}
+use Rattle.newkey.specs.Moves.{usedRecords}
+use Rattle.raising.specs.Moves.{EnterReady}
+use Rattle.raising.proofs.Keys.{untouched, count-two}
 
 -- child number i of the children
 kid-at : {A : Type 0} (place : A → ℕ) (pre : List (A × Key)) (post : Post A) (t : A) → getD (kidPlaces place (fillKids pre post t) (fillLast post t)) (length pre) 0 ≡ place t

@@ -1,4 +1,2 @@
-pub mod Sides
 pub mod Stored
-pub mod Moves
 pub mod Ready

@@ -15,9 +15,11 @@ use Rattle.regions.specs.declared.Region.{Region}
 use Rattle.xrtree.specs.Rules.{within, sameRegion, pairRight}
 use Rattle.pages.specs.Layout.{pageOf, fillOf, childIn, recordCount, recordOf, recordNext}
 use Rattle.image.specs.Read.{entriesFrom, keyAt, recordRegion}
-use Rattle.stablists.specs.declared.Trail.{Trail}
-use Rattle.stablists.specs.declared.Home.{Home}
-use Rattle.stablists.specs.Pass.{bad, going, isHome, step, meet, follow, begun, ended, keyIn, headIn, homeIn, around, keyPass, flagHere, passKeys, passAt}
+use Rattle.trail.specs.declared.Trail.{Trail}
+use Rattle.trail.specs.declared.Home.{Home}
+use Rattle.trail.specs.Pass.{bad, going, isHome, step, meet, follow, begun, ended}
+use Rattle.flags.specs.Pass.{flagHere}
+use Rattle.stablists.specs.Pass.{keyIn, headIn, homeIn, around, keyPass, passKeys, passAt}
 
 -- where a part of the pass ends that begins with no list open and n records left: its test b, and the x records that it meets
 abbrev pub outcome : Bool → ℕ → ℕ → Trail

@@ -14,6 +14,7 @@ use Rattle.words.proofs.Listed.{all-mono}
 use Rattle.words.proofs.Says.{le-says, eq-says}
 use Rattle.regions.specs.Positions.{wellFormed, nested}
 use Rattle.regions.specs.declared.Region.{Region}
+use Rattle.pages.specs.Layout.{rootOf, heightOf, recordCount, recordUsed}
 use Rattle.xrtree.specs.Tree.{Tree, regions, keysOf, leaves, recordPlaces}
 use Rattle.xrtree.specs.Rules.{filled, linked, startsFirst, rule1, rule2, rule3, rule4, rule5, rule6, placed}
 use Rattle.xrtree.specs.Claims.{Claim, In, Proper}
@@ -21,22 +22,22 @@ use Rattle.xrtree.specs.Local.{ListIs, NoLeaf, NoKey, FlagsAre, FirstIs, Sound}
 use Rattle.xrtree.proofs.Here.{here-all}
 use Rattle.xrtree.proofs.Order.{order-in, rules-order}
 use Rattle.xrtree.proofs.Rules.{over-rising, set-proper, items-low, Ruled, rules-good, good-rules}
-use Rattle.xrtree.proofs.Whole.{good-sound, sound-good}
-use Rattle.pages.specs.Layout.{rootOf, heightOf, recordCount, recordUsed}
+use Rattle.xrtree.proofs.Holes.{good-sound, sound-good}
 use Rattle.image.specs.Read.{readTree, depthOf, treeOf, setOf}
 use Rattle.image.specs.Valid.{sized}
 use Rattle.image.specs.Shape.{shapely, listsRight}
-use Rattle.stablists.specs.declared.Trail.{Trail}
 use Rattle.image.specs.Fills.{rootLeast}
 use Rattle.image.proofs.Fills.{shapely-fills}
-use Rattle.stablists.specs.Pass.{Fills, going, passAt, usedTo}
+use Rattle.image.proofs.Small.{small-keys, small-ends}
+use Rattle.trail.specs.declared.Trail.{Trail}
+use Rattle.trail.specs.Pass.{going, Fills}
+use Rattle.stablists.specs.Pass.{passAt, usedTo}
 use Rattle.stablists.proofs.Counts.{outcome, testAt, sizeAt, pass-counts}
 use Rattle.stablists.proofs.Chains.{Place}
 use Rattle.stablists.proofs.Reading.{fills-most}
 use Rattle.stablists.proofs.Tested.{Tested, KeyRight, Right, root-filled, tree-tested}
 use Rattle.stablists.proofs.Claimed.{claim-two, claim-mono, Placed, claim-places, ListRead, lists-read}
 use Rattle.stablists.proofs.Once.{Holds, at-most, used-few, placed-of, of-placed}
-use Rattle.image.proofs.Small.{small-keys, small-ends}
 
 -- what comes of a test b and x records where n are used
 all-met : (b : Bool) (x n : ℕ) → ((outcome b x n) .ok && eqb ((outcome b x n) .left) 0) ≡ (b && eqb x n)

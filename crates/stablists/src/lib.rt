@@ -3,144 +3,18 @@
 // with the keys of the pages above.
 ghost use mathlib.Core.Path.{_≡_};
 ghost use mathlib.Core.Bool.{_&&_};
-ghost use Prim.Native.Nat.{_+_, _<_};
+ghost use Prim.Native.Nat.{_<_};
 ghost use lib.Dec.{T, eqb};
-ghost use Rattle.words.specs.Lists.{all};
-ghost use Rattle.xrtree.specs.Rules.{sameRegion, pairRight, rule6};
-ghost use Rattle.pages.specs.Layout.{pageOf, fillOf, recordCount};
-ghost use Rattle.image.specs.Read.{entryAt, entriesFrom, keyAt, setOf};
+ghost use Rattle.xrtree.specs.Rules.{pairRight, rule6};
+ghost use Rattle.pages.specs.Layout.{pageOf, recordCount};
+ghost use Rattle.image.specs.Read.{keyAt, setOf};
 ghost use Rattle.image.specs.Shape.{shapely, listsRight};
-ghost use Rattle.stablists.specs.Pass.{Fills, FillsBelow, bad, isHome, step, meet, follow, firstRegion, regionsAt, between, flagHere, begun, ended, keyPass, passAt, usedTo};
+ghost use Rattle.trail.specs.Pass.{Fills};
+ghost use Rattle.stablists.specs.Pass.{FillsBelow, firstRegion, keyPass, passAt, usedTo};
 use pages::KeyWords;
 use regions::Region;
-
-// How far the test has come: the record that must come next (0 where the list has ended), and how many of the used records are still to be met.
-// Each record met takes one, so that a hostile list ends.
-pub struct Trail {
-    pub ok: bool,
-    pub at: u32,
-    pub left: usize,
-}
-
-// Where a key's list is at home: its regions start from low on and at the key at the latest, and end at the key or behind it, before high.
-pub struct Home {
-    pub low: usize,
-    pub key: usize,
-    pub high: usize,
-}
-
-// One value for every failure, which all that follows leaves as it is: no test has to be known later.
-fn failed() -> Trail
-    ensures { λ r. ⌜ r ≡ bad ⌝ }
-{
-    Trail {
-        ok: false,
-        at: 0,
-        left: 0,
-    }
-}
-
-// Whether a record is the region's own: the list must hold the region as the leaf has it, with level and reference.
-fn same_region(x: Region, y: Region) -> bool
-    ensures { λ r. ⌜ r ≡ sameRegion x y ⌝ }
-{
-    if x.start != y.start {
-        return false;
-    }
-    if x.end != y.end {
-        return false;
-    }
-    if x.level != y.level {
-        return false;
-    }
-    x.reference == y.reference
-}
-
-// Whether the region belongs into the key's list: the key stabs it, no earlier key of its page does, and no key of a page above.
-fn at_home(home: Home, r: Region) -> bool
-    ensures { λ t. ⌜ t ≡ isHome home r ⌝ }
-{
-    let start = words::wide(r.start);
-    let end = words::wide(r.end);
-    if start < home.low {
-        return false;
-    }
-    if home.key < start {
-        return false;
-    }
-    if end < home.key {
-        return false;
-    }
-    end < home.high
-}
-
-// The record that must come next is this region's.
-fn take_record(img: &[u32], r: Region, t: Trail) -> Trail
-    ensures { λ u. ⌜ u ≡ step (now (img .entry)) r t ⌝ }
-{
-    let at = t.at;
-    let left = t.left;
-    if at < 1 {
-        return failed();
-    }
-    if pages::RECORD_COUNT < at {
-        return failed();
-    }
-    if left < 1 {
-        return failed();
-    }
-    if !same_region(pages::record_region(img, at), r) {
-        return failed();
-    }
-    Trail {
-        ok: true,
-        at: pages::record_next(img, at),
-        left: left - 1,
-    }
-}
-
-// A region of the set, in ascending start: if it is at home it must come next in the list.
-fn meet_region(img: &[u32], home: Home, r: Region, t: Trail) -> Trail
-    ensures { λ u. ⌜ u ≡ meet (now (img .entry)) home r t ⌝ }
-{
-    if !at_home(home, r) {
-        return t;
-    }
-    take_record(img, r, t)
-}
-
-// The regions of a leaf, each of which may be the one that must come next.
-fn meet_leaf(img: &[u32], home: Home, p: u32, t: Trail) -> Trail
-    requires { ⌜ Fills 0 (now img) p ⌝ }
-    ensures { λ r. ⌜ r ≡ follow (now (img .entry)) home (regionsAt (now (img .entry)) 0 p) t ⌝ }
-{
-    let n = words::wide(pages::fill(img, p));
-    let mut s = t;
-    let mut i = 0;
-    while i < n {
-        s = meet_region(img, home, pages::entry_region(img, p, i), s);
-        i += 1;
-    }
-    s
-}
-
-// The regions below a page whose leaves lie so many pages deeper.
-fn meet_tree(img: &[u32], depth: usize, home: Home, p: u32, t: Trail) -> Trail
-    requires { ⌜ Fills depth (now img) p ⌝ }
-    ensures { λ r. ⌜ r ≡ follow (now (img .entry)) home (regionsAt (now (img .entry)) depth p) t ⌝ }
-{
-    if depth == 0 {
-        return meet_leaf(img, home, p, t);
-    }
-    let n = words::wide(pages::fill(img, p));
-    let mut s = t;
-    let mut i = 0;
-    while i <= n {
-        s = meet_tree(img, depth - 1, home, pages::child(img, p, i), s);
-        i += 1;
-    }
-    s
-}
+use trail::Home;
+use trail::Trail;
 
 // The leftmost region below a page: the only one right of a key that can start at the key. (No leaf but the root's is empty.)
 fn first_region(img: &[u32], depth: usize, p: u32) -> Region
@@ -179,31 +53,6 @@ fn pair_right(img: &[u32], p: u32, i: usize) -> bool
     same_pair(k, first.start, first.end)
 }
 
-// A list begins, at the record that its key names.
-fn begin_list(t: Trail, head: u32) -> Trail
-    ensures { λ r. ⌜ r ≡ begun head t ⌝ }
-{
-    if !t.ok {
-        return failed();
-    }
-    Trail {
-        ok: true,
-        at: head,
-        left: t.left,
-    }
-}
-
-// A list must have ended where its regions have.
-fn end_list(t: Trail) -> Trail
-    ensures { λ r. ⌜ r ≡ ended t ⌝ }
-{
-    let at = t.at;
-    if at != 0 {
-        return failed();
-    }
-    t
-}
-
 // Key i of a page: its stored pair, and its list. Its regions lie under the child on its left, but for one that may start at the key itself:
 // that is the first one under the child on its right.
 fn key_list(img: &[u32], depth: usize, p: u32, i: usize, low: usize, high: usize, t: Trail) -> Trail
@@ -212,7 +61,7 @@ fn key_list(img: &[u32], depth: usize, p: u32, i: usize, low: usize, high: usize
     ensures { λ r. ⌜ r ≡ keyPass (now (img .entry)) depth (pageOf (now (img .entry)) p) i low high t ⌝ }
 {
     if !pair_right(img, p, i) {
-        return failed();
+        return trail::failed();
     }
     let k = pages::key_words(img, p, i);
     let home = Home {
@@ -220,53 +69,15 @@ fn key_list(img: &[u32], depth: usize, p: u32, i: usize, low: usize, high: usize
         key: words::wide(k.key),
         high: high,
     };
-    let under = meet_tree(
+    let under = trail::meet_tree(
         img,
         depth,
         home,
         pages::child(img, p, i),
-        begin_list(t, k.head),
+        trail::begin_list(t, k.head),
     );
     let next = first_region(img, depth, pages::child(img, p, i + 1));
-    end_list(meet_region(img, home, next, under))
-}
-
-// Whether no key stabs the region of an entry in a leaf between these bounds: such a key would be one of the two around the leaf.
-fn lies_between(r: Region, low: usize, high: usize) -> bool
-    ensures { λ t. ⌜ t ≡ between low high r ⌝ }
-{
-    if words::wide(r.start) < low {
-        return false;
-    }
-    words::wide(r.end) < high
-}
-
-// An entry's flag is 0 where no key stabs its region: where the region lies between the keys around its leaf.
-fn flag_right(img: &[u32], p: u32, i: usize, low: usize, high: usize) -> bool
-    requires { ⌜ i < 9 ⌝ }
-    ensures { λ r. ⌜ r ≡ flagHere low high (entryAt (pageOf (now (img .entry)) p) i) ⌝ }
-{
-    let flag = pages::entry_flag(img, p, i);
-    if lies_between(pages::entry_region(img, p, i), low, high) {
-        return flag == 0;
-    }
-    flag == 1
-}
-
-// All flags of a leaf.
-fn flags_right(img: &[u32], p: u32, low: usize, high: usize) -> bool
-    requires { ⌜ Fills 0 (now img) p ⌝ }
-    ensures { λ r. ⌜ r ≡ all (flagHere low high) (entriesFrom (pageOf (now (img .entry)) p) 0 (fillOf (pageOf (now (img .entry)) p))) ⌝ }
-{
-    let n = words::wide(pages::fill(img, p));
-    let mut i = 0;
-    while i < n {
-        if !flag_right(img, p, i, low, high) {
-            return false;
-        }
-        i += 1;
-    }
-    true
+    trail::end_list(trail::meet_region(img, home, next, under))
 }
 
 // A leaf has flags and no lists.
@@ -274,8 +85,8 @@ fn leaf_flags(img: &[u32], p: u32, low: usize, high: usize, t: Trail) -> Trail
     requires { ⌜ Fills 0 (now img) p ⌝ }
     ensures { λ r. ⌜ r ≡ passAt (now (img .entry)) 0 p low high t ⌝ }
 {
-    if !flags_right(img, p, low, high) {
-        return failed();
+    if !flags::flags_right(img, p, low, high) {
+        return trail::failed();
     }
     t
 }

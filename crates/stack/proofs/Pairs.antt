@@ -1,33 +1,33 @@
--- The pairs of one d: whom it pairs with past a mark, how they are written and counted one by one, and what the rest of a join adds to them.
+-- The pairs of one d with all that the stack holds, and what the rest of a join adds to them.
 -- Assumes nothing.
 use Prim.Native.Nat.{ℕ, suc, _+_, _-_, _≤_, _<_}
 use mathlib.Core.Path.{_≡_, refl, sym, ap, _∙_, subst}
 use mathlib.Core.Logic.{⊎-elim, inl, inr}
 use mathlib.Core.Bool.{Bool, true, false}
 use mathlib.Core.List.{List, [], _∷_, _++_, map}
-use lib.Dec.{ltb}
 use lib.ListN.{length, length-append}
 use native.Mathlib.Omega.{arith}
 use native.Mathlib.Decide.{decLe}
 use native.Mathlib.Numerals.{add-one}
 use Rattle.words.specs.Lists.{filter, All}
-use Rattle.words.proofs.Tests.{T-of, of-T, and-left, and-false, and-true, eq-yes, eq-no, lt-yes, lt-no}
+use Rattle.words.proofs.Tests.{T-of, of-T, and-left}
 use Rattle.words.proofs.Listed.{all-mono, all-every, all-append, pairs-across, filter-none, filter-append, filter-filter, filter-within, map-append, filter-map}
-use Rattle.regions.specs.Positions.{holds, isAbove}
+use Rattle.words.proofs.Says.{so-false, false-so}
+use Rattle.regions.specs.Positions.{holds}
 use Rattle.regions.specs.Calls.{Pair, room, pairsWith, pairOf, pairsOf, pairWords}
-use Rattle.regions.specs.Desk.{later, isPast, past}
+use Rattle.regions.specs.Desk.{isPast, past}
 use Rattle.regions.specs.Sound.{Rising}
 use Rattle.regions.specs.declared.Region.{Region}
 use Rattle.regions.specs.declared.Kind.{Kind}
 use Rattle.regions.specs.declared.Kind.the-variants.{Ancestor, Parent}
 use Rattle.regions.specs.declared.Mark.{Mark}
 use Rattle.regions.specs.declared.Mark.the-variants.{Fresh, Last}
-use Rattle.regions.proofs.Extra.{so-false, false-so}
 use Rattle.regions.proofs.Joined.{pairs-hold, later-says}
 use Rattle.answers.specs.Items.{writtenFrom}
 use Rattle.answers.proofs.Items.{from-none, from-long, from-full, from-append}
+use Rattle.pairing.specs.Pairs.{paired, pairsPast, counted, PairedUp}
+use Rattle.pairing.proofs.Pairs.{takes-not}
 use Rattle.stack.specs.Stacks.{regionAt, stacked}
-use Rattle.stack.specs.Pairs.{paired, pairsPast, counted, PairedUp}
 use Rattle.stack.proofs.Stacked.{stacked-long, stacked-more, stacked-front}
 
 -- KINDS
@@ -35,24 +35,6 @@ pub pairs-not : (k : Kind) (d a : Region) → holds (d .start) a ≡ false → f
 unfolding pairsWith
 pairs-not Ancestor d a h = sym h
 pairs-not Parent d a h = rw h
-
--- MARKS
-pub past-fresh : (m : Mark) (d a : Region) → m ≡ Fresh → true ≡ isPast m (pairOf d a)
-unfolding isPast
-past-fresh m d a e = rw e
-
-module _ (m : Mark) (d a : Region) (x y : ℕ) (e : m ≡ Last x y) where
-  pub past-later : y < d .start → true ≡ isPast m (pairOf d a)
-  unfolding isPast later
-  past-later h = rw (e, lt-yes y (d .start) h)
-
-  pub past-earlier : d .start < y → false ≡ isPast m (pairOf d a)
-  unfolding isPast later
-  past-earlier h = rw (e, lt-no y (d .start) (omega arith), eq-no y (d .start) (λ f. omega arith))
-
-  pub past-same : d .start ≤ y → y ≤ d .start → ltb x (a .start) ≡ isPast m (pairOf d a)
-  unfolding isPast later
-  past-same h k = rw (e, lt-no y (d .start) (omega arith), eq-yes y (d .start) (omega arith))
 
 -- of two outer regions the one that starts sooner: where the other's pair is not past the mark, its own is not
 past-sooner : (m : Mark) (d a b : Region) → a .start ≤ b .start → isPast m (pairOf d b) ≡ false → isPast m (pairOf d a) ≡ false
@@ -80,20 +62,6 @@ past-none ws n m d a z up e h =
 pub past-empty : (ws : List ℕ) (n : ℕ) (P : Region → Type 0) → n ≡ 0 → All P (stacked ws n)
 unfolding stacked
 past-empty ws n P e = rw e tt
-
--- BOTH: the pair is not past the mark; it is, and a holds d
-pub takes-not : (k : Kind) (m : Mark) (d a : Region) → isPast m (pairOf d a) ≡ false → false ≡ paired k m d a
-unfolding paired
-takes-not k m d a e = rw e (sym (and-false (pairsWith k d a)))
-
-module _ (k : Kind) (m : Mark) (d a : Region) (h : holds (d .start) a ≡ true) where
-  pub takes-ancestor : isPast m (pairOf d a) ≡ true → k ≡ Ancestor → true ≡ paired k m d a
-  unfolding paired pairsWith
-  takes-ancestor e f = rw (f, h, e)
-
-  pub takes-parent : isPast m (pairOf d a) ≡ true → k ≡ Parent → isAbove (d .level) a ≡ paired k m d a
-  unfolding paired pairsWith
-  takes-parent e f = rw (f, h, e) (sym (and-true (isAbove (d .level) a)))
 
 -- of all that hold d: the pairs of d in the whole set
 pub pairs-past : (k : Kind) (m : Mark) (d : Region) (rs : List Region) → pairsPast k m d (filter (holds (d .start)) rs) ≡ past m (pairsOf k rs d)
@@ -139,15 +107,6 @@ paired-nothing {rs} {k} {m} {d} {all} {out} {n} h =
     record { words = rw none (sym (from-none pairWords 4 n out)); total = rw none (ap (counted all out) z); few = omega arith }
 
 module _ {k : Kind} {m : Mark} {d : Region} {out : List ℕ} {n : ℕ} where
-  -- one, which is passed by or written
-  pub paired-none : {a : Region} → paired k m d a ≡ false → PairedUp (a ∷ []) k m d true out n out n
-  unfolding filter
-  paired-none h = record { words = rw h (sym (from-none pairWords 4 n out)); total = rw h (omega arith); few = omega arith }
-
-  pub paired-one : {a : Region} {out′ : List ℕ} → paired k m d a ≡ true → out′ ≡ writtenFrom pairWords 4 n out (pairOf d a ∷ []) → PairedUp (a ∷ []) k m d true out n out′ (n + 1)
-  unfolding filter
-  paired-one h e = record { words = rw h e; total = rw h; few = omega arith }
-
   -- with the stack: none of it yet, one more, and all of it
   pub paired-start : (ws : List ℕ) → PairedUp (stacked ws 0) k m d true out n out n
   unfolding stacked filter

@@ -16,7 +16,7 @@ use Rattle.words.proofs.Written.{sets-below, sets-in}
 use Rattle.regions.specs.Positions.{holds}
 use Rattle.regions.specs.Calls.{room, regionWords}
 use Rattle.regions.specs.declared.Region.{Region}
-use Rattle.regions.proofs.Extra.{so-true, so-false}
+use Rattle.words.proofs.Says.{so-true, so-false}
 use Rattle.answers.specs.Items.{writtenFrom}
 use Rattle.answers.proofs.Items.{from-none, from-long, from-one, from-append}
 use Rattle.stack.specs.Stacks.{endsBehind, Falling, regionAt, stacked}

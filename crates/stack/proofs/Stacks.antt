@@ -9,14 +9,13 @@ use lib.ListN.{length, length-append}
 use native.Mathlib.Omega.{arith}
 use native.Mathlib.Decide.{decLt}
 use Rattle.words.specs.Lists.{filter, All}
-use Rattle.words.proofs.Listed.{all-mono, all-two, none-of, all-every, all-append, all-let, pairs-kept, pairs-filter, pairs-across, filter-yes, filter-no, filter-append, filter-all, filter-none, filter-same, filter-filter, filter-within}
-use Rattle.words.proofs.Says.{Says, says-same, says-iff, and-says, lt-says}
+use Rattle.words.proofs.Listed.{all-mono, all-two, none-of, all-every, all-append, all-let, pairs-kept, pairs-filter, pairs-across, filter-yes, filter-no, filter-append, filter-all, filter-none, filter-same, filter-filter, filter-within, pairs-two}
+use Rattle.words.proofs.Says.{Says, says-same, says-iff, and-says, lt-says, true-so, so-true, false-so, so-false}
 use Rattle.words.proofs.Counted.{filter-short}
 use Rattle.regions.specs.Positions.{holds, nested}
 use Rattle.regions.specs.Sets.{startsBefore, startsFrom}
 use Rattle.regions.specs.Sound.{Rising, Nesting}
 use Rattle.regions.specs.declared.Region.{Region}
-use Rattle.regions.proofs.Extra.{true-so, so-true, false-so, so-false, pairs-two}
 use Rattle.regions.proofs.Means.{holds-says, before-says, from-says, nested-in-turn}
 use Rattle.regions.proofs.Rising.{parts}
 use Rattle.stack.specs.Stacks.{holdsUpTo, endsBehind, Falling}

@@ -1,9 +1,9 @@
 // The stack of a join: the outer regions that hold a place, in lent words, the innermost on top, which is the last. It follows the places as they ascend, and pairs what it
 // holds with each d. No image is read here: whoever reads regions in ascending start can keep such a stack.
+ghost use Prim.Native.Nat.{_<_, _≤_};
 ghost use mathlib.Core.Path.{_≡_};
 ghost use mathlib.Core.Bool.{true, false};
 ghost use mathlib.Core.List.{[], _∷_, _++_};
-ghost use Prim.Native.Nat.{_<_, _≤_};
 ghost use lib.ListN.{length};
 ghost use Rattle.words.specs.Lists.{filter, All};
 ghost use Rattle.regions.specs.Limits.{mostRegions};
@@ -12,8 +12,8 @@ ghost use Rattle.regions.specs.Calls.{pairOf};
 ghost use Rattle.regions.specs.Desk.{isPast};
 ghost use Rattle.regions.specs.Sound.{Rising};
 ghost use Rattle.regions.specs.declared.Region.{Region};
+ghost use Rattle.pairing.specs.Pairs.{PairedUp};
 ghost use Rattle.stack.specs.Stacks.{heldWords, endsBehind, Falling, regionAt, stacked};
-ghost use Rattle.stack.specs.Pairs.{paired, PairedUp};
 use regions::Kind;
 use regions::Mark;
 use regions::Region;
@@ -64,48 +64,6 @@ pub fn push(held: &mut [u32], n: usize, a: Region, p: u32) -> usize
     n + 1
 }
 
-// Whether the pair of a and d comes later than the marked one, by d's start and then by a's.
-fn is_past(mark: Mark, d: Region, a: Region) -> bool
-    ensures { λ t. ⌜ t ≡ isPast mark (pairOf d a) ⌝ }
-{
-    let Mark::Last(x, y) = mark else {
-        return true;
-    };
-    if y < d.start {
-        return true;
-    }
-    if d.start < y {
-        return false;
-    }
-    x < a.start
-}
-
-// Whether the pair of d and an a that holds it is asked for: by the kind, and past the mark.
-fn takes(kind: Kind, mark: Mark, d: Region, a: Region) -> bool
-    requires { ⌜ holds (d .start) a ≡ true ⌝ }
-    ensures { λ r. ⌜ r ≡ paired kind mark d a ⌝ }
-{
-    if !is_past(mark, d, a) {
-        return false;
-    }
-    match kind {
-        Kind::Ancestor => true,
-        Kind::Parent => regions::is_above(d.level, a),
-    }
-}
-
-// The pair of d and an a that holds it, where it is asked for.
-fn pair_one(a: Region, d: Region, kind: Kind, mark: Mark, out: &mut [u32], k: usize) -> usize
-    requires { ⌜ (k < 1099511627776) × (holds (d .start) a ≡ true) ⌝ }
-    ensures { λ r. ⌜ PairedUp (a ∷ []) kind mark d true (now (out .entry)) k (now (out .exit)) r ⌝ }
-{
-    if !takes(kind, mark, d, a) {
-        return k;
-    }
-    answers::put_pair(out, k, a, d);
-    k + 1
-}
-
 // The pairs of d with the whole stack, past the mark: all of them are counted.
 fn pair_all(
     held: &[u32],
@@ -124,7 +82,7 @@ fn pair_all(
     let mut i: usize = 0;
     while i < n {
         let a = region_at(held, i);
-        k = pair_one(a, d, kind, mark, out, k);
+        k = pairing::pair_one(a, d, kind, mark, out, k);
         i += 1;
     }
     k
@@ -152,7 +110,7 @@ fn pair_fitting(
             return k;
         }
         let a = region_at(held, i);
-        k = pair_one(a, d, kind, mark, out, k);
+        k = pairing::pair_one(a, d, kind, mark, out, k);
         i += 1;
     }
     k
@@ -167,7 +125,7 @@ fn none_past(held: &[u32], n: usize, d: Region, mark: Mark) -> bool
     if n == 0 {
         return true;
     }
-    !is_past(mark, d, region_at(held, n - 1))
+    !pairing::is_past(mark, d, region_at(held, n - 1))
 }
 
 // ONE d: its pairs with the whole stack, past the mark; all are counted, or those that fit. (One loop with both tests would ask two things of each pair, and most of a

@@ -16,7 +16,7 @@ use Rattle.xrtree.specs.Rules.{linked}
 use Rattle.xrtree.specs.Claims.{Over, Fits, Between, Within}
 use Rattle.xrtree.specs.Local.{ListIs, NoLeaf, NoKey, FlagsAre, Here, FirstIs}
 use Rattle.xrtree.specs.Holes.{Post, fillKids, fillLast, up, Ctx, plug, loAt, hiAt}
-use Rattle.xrtree.proofs.Whole.{before, after, hole, here-plug, listed-parts, listed-plug}
+use Rattle.xrtree.proofs.Holes.{before, after, hole, here-plug, listed-parts, listed-plug}
 use Rattle.xrtree.specs.Holes.Post.{atKey, atEnd}
 use Rattle.holding.specs.Held.{EveryKid, placeOf}
 use Rattle.holding.proofs.Frames.{SamePage, SameRecord}

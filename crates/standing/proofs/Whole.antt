@@ -18,7 +18,7 @@ use Rattle.xrtree.specs.Rules.{within, filled, filledBelow, linked, startsFirst
 use Rattle.xrtree.specs.Claims.{Good, Over, Fits}
 use Rattle.xrtree.proofs.Here.{here-all}
 use Rattle.xrtree.specs.Local.{Sound}
-use Rattle.xrtree.proofs.Whole.{good-sound, sound-good}
+use Rattle.xrtree.proofs.Holes.{good-sound, sound-good}
 use Rattle.xrtree.proofs.Rules.{rules-good, good-rules}
 use Rattle.pages.specs.Layout.{rootOf, heightOf, sharesOf, pageUsed, recordUsed}
 use Rattle.image.specs.Read.{readTree, depthOf, treeOf, setOf}

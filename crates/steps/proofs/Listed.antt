@@ -8,7 +8,7 @@ use Rattle.words.specs.Lists.{count}
 use Rattle.words.proofs.Counted.{count-append}
 use Rattle.xrtree.specs.Tree.{Key, Tree, Listing, weave, listed, listRegions, listLeaves, listPages, listRecords, recordPlaces}
 use Rattle.xrtree.specs.Holes.{Post, fill}
-use Rattle.xrtree.proofs.Whole.{beforeKids, afterKids, listed-parts}
+use Rattle.xrtree.proofs.Holes.{beforeKids, afterKids, listed-parts}
 use Rattle.xrtree.specs.Holes.Post.{atKey, atEnd}
 use Rattle.steps.specs.Steps.{rekeyed, nextPlaces}
 

@@ -10,7 +10,7 @@ use Rattle.words.proofs.Listed.{all-left, all-right, all-every}
 use Rattle.words.proofs.Counted.{count-append, count-cons}
 use Rattle.xrtree.specs.Tree.{Key, Inner, Tree, weave, listed, listPages, listRecords, pagePlaces, recordPlaces}
 use Rattle.xrtree.specs.Holes.{Post, fill}
-use Rattle.xrtree.proofs.Whole.{beforeKids, afterKids}
+use Rattle.xrtree.proofs.Holes.{beforeKids, afterKids}
 use Rattle.pages.specs.Layout.{pageOf, fillOf}
 use Rattle.image.specs.Decode.{keysFrom}
 use Rattle.holding.specs.Held.{EveryKid, placeOf, LeafHeld, PageHeld, Held, keyRecords}

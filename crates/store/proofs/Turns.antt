@@ -19,9 +19,9 @@ load-turn ws w b i h k p =
     let m : i < length (drop b w) = simp length-drop (omega arith) in
     rw (add-one, take-suc-set ws i (getD w (b + i) 0) h, take-suc (drop b w) i 0 m, getD-drop, p)
 
-pub load-done : (ws w : List ℕ) (p q i : ℕ) → i ≤ 57 → 57 ≤ i → length ws ≡ 57 → q ≡ p → take i ws ≡ take i (drop (57 * q) w) → ws ≡ pageOf w p
+pub load-done : (ws w : List ℕ) (p b i : ℕ) → i ≤ 57 → 57 ≤ i → length ws ≡ 57 → b ≡ 57 * p → take i ws ≡ take i (drop b w) → ws ≡ pageOf w p
 unfolding pageOf
-load-done ws w p q i a b l e t =
+load-done ws w p b i h k l e t =
     let f : i ≡ 57 = omega arith in
     sym (take-all 57 ws (omega arith)) ∙ rw (f, e) at t
 
@@ -32,14 +32,14 @@ store-start w ws b = let e : b + 0 ≡ b = omega arith in rw e
 pub store-turn : (w ws : List ℕ) (b i x : ℕ) → i < length ws → x ≡ getD ws i 0 → sets (set w (b + i) x) (b + (i + 1)) (drop (i + 1) ws) ≡ sets w (b + i) (drop i ws)
 store-turn w ws b i x h e = let n : b + (i + 1) ≡ suc (b + i) = omega arith in rw (e, n, add-one, drop-cons ws i 0 h)
 
-pub store-done : (w w′ ws : List ℕ) (p q i : ℕ) → length ws ≤ i → q ≡ p → sets w (57 * q + i) (drop i ws) ≡ sets w′ (57 * q) ws → w ≡ putPage w′ p ws
+pub store-done : (w w′ ws : List ℕ) (p b i : ℕ) → length ws ≤ i → b ≡ 57 * p → sets w (b + i) (drop i ws) ≡ sets w′ b ws → w ≡ putPage w′ p ws
 unfolding putPage
-store-done w w′ ws p q i h e s = sym (ap (λ l. sets w (57 * q + i) l) (drop-of-length-le ws h)) ∙ s ∙ ap (λ n. sets w′ (57 * n) ws) e
+store-done w w′ ws p b i h e s = sym (ap (λ l. sets w (b + i) l) (drop-of-length-le ws h)) ∙ s ∙ ap (λ n. sets w′ n ws) e
 
 -- five words one behind the other
-pub put-five : (w : List ℕ) (p q a b c d e : ℕ) → q ≡ p
-    → set (set (set (set (set w (9177 + 6 * q) a) (9177 + 6 * q + 1) b) (9177 + 6 * q + 2) c) (9177 + 6 * q + 3) d) (9177 + 6 * q + 4) e ≡ sets w (9177 + 6 * p) (a ∷ b ∷ c ∷ d ∷ e ∷ [])
-put-five w p q a b c d e s = rw s (simp towards-suc)
+pub put-five : (w : List ℕ) (q n a b c d e : ℕ) → n ≡ 9177 + 6 * q
+    → set (set (set (set (set w n a) (n + 1) b) (n + 2) c) (n + 3) d) (n + 4) e ≡ sets w (9177 + 6 * q) (a ∷ b ∷ c ∷ d ∷ e ∷ [])
+put-five w q n a b c d e s = rw s (simp towards-suc)
 
 -- SEARCHING: a place whose word is 0 is free, and one whose word is not is in use
 pub page-free : (w : List ℕ) (p m : ℕ) → m ≡ markOf (pageOf w p) → m ≡ 0 → pageUsed w p ≡ false

@@ -5,15 +5,16 @@ ghost use Prim.Native.Nat.{_≤_};
 ghost use lib.ListN.{length};
 ghost use Rattle.pages.specs.Layout.{pageOf, pageUsed, recordUsed, imageWords, pageCount, recordCount};
 ghost use Rattle.store.specs.Store.{putPage, freePage, putRecord, setNext, freeRecord, setRoot, setHeight, FirstFree};
+use pages::Page;
 use regions::Region;
 
 // The 57 words of page p, by value.
-pub fn load_page(img: &[u32], p: u32) -> [u32; pages::PAGE_WIDTH]
+pub fn load_page(img: &[u32], p: u32) -> Page
     requires { ⌜ length (now img) ≡ imageWords ⌝ }
     requires { ⌜ (1 ≤ p) × (p ≤ pageCount) ⌝ }
     ensures { λ r. ⌜ r ≡ pageOf (now (img .entry)) p ⌝ }
 {
-    let b = 57 * words::wide(p);
+    let b = pages::page_at(p);
     let mut ws = [0u32; pages::PAGE_WIDTH];
     let mut i: usize = 0;
     while i < pages::PAGE_WIDTH {
@@ -24,12 +25,12 @@ pub fn load_page(img: &[u32], p: u32) -> [u32; pages::PAGE_WIDTH]
 }
 
 // All 57 words of page p.
-pub fn store_page(img: &mut [u32], p: u32, ws: [u32; pages::PAGE_WIDTH])
+pub fn store_page(img: &mut [u32], p: u32, ws: Page)
     requires { ⌜ length (now img) ≡ imageWords ⌝ }
     requires { ⌜ (1 ≤ p) × (p ≤ pageCount) ⌝ }
     ensures { λ _. ⌜ now (img .exit) ≡ putPage (now (img .entry)) p ws ⌝ }
 {
-    let b = 57 * words::wide(p);
+    let b = pages::page_at(p);
     let mut i: usize = 0;
     while i < pages::PAGE_WIDTH {
         img[b + i] = ws[i];
@@ -43,7 +44,7 @@ pub fn free_page(img: &mut [u32], p: u32)
     requires { ⌜ (1 ≤ p) × (p ≤ pageCount) ⌝ }
     ensures { λ _. ⌜ now (img .exit) ≡ freePage (now (img .entry)) p ⌝ }
 {
-    img[57 * words::wide(p)] = 0;
+    img[pages::page_at(p)] = 0;
 }
 
 // Stab record q: a region, and the record behind it in its list.
@@ -52,7 +53,7 @@ pub fn put_record(img: &mut [u32], q: u32, r: Region, next: u32)
     requires { ⌜ (1 ≤ q) × (q ≤ recordCount) ⌝ }
     ensures { λ _. ⌜ now (img .exit) ≡ putRecord (now (img .entry)) q r next ⌝ }
 {
-    let b = 9177 + 6 * words::wide(q);
+    let b = pages::record_at(q);
     img[b] = r.start;
     img[b + 1] = r.end;
     img[b + 2] = r.level;
@@ -66,7 +67,7 @@ pub fn set_next(img: &mut [u32], q: u32, next: u32)
     requires { ⌜ (1 ≤ q) × (q ≤ recordCount) ⌝ }
     ensures { λ _. ⌜ now (img .exit) ≡ setNext (now (img .entry)) q next ⌝ }
 {
-    img[9177 + 6 * words::wide(q) + 4] = next;
+    img[pages::record_at(q) + 4] = next;
 }
 
 // Gives record q back: no region ends at 0, so that end says it.
@@ -75,7 +76,7 @@ pub fn free_record(img: &mut [u32], q: u32)
     requires { ⌜ (1 ≤ q) × (q ≤ recordCount) ⌝ }
     ensures { λ _. ⌜ now (img .exit) ≡ freeRecord (now (img .entry)) q ⌝ }
 {
-    img[9177 + 6 * words::wide(q) + 1] = 0;
+    img[pages::record_at(q) + 1] = 0;
 }
 
 pub fn set_root(img: &mut [u32], p: u32)

@@ -1,14 +1,14 @@
 -- Lists: what every element or pair has, filters, beginnings.
 -- Assumes nothing.
-use Prim.Native.Nat.{ℕ, zero, suc}
+use Prim.Native.Nat.{ℕ, zero, suc, _+_}
 use mathlib.Core.Path.{_≡_, refl, sym, ap, ap₂, _∙_, subst}
 use mathlib.Core.Logic.{_⊎_, inl, inr, ⊎-elim}
 use mathlib.Core.Bool.{Bool, true, false, _&&_, not, cond, true≢false}
 use mathlib.Core.List.{List, [], _∷_, _++_, map, flatMap, append-assoc}
 use lib.Dec.{T}
-use lib.ListN.{take, drop}
+use lib.ListN.{take, drop, length}
 use native.Mathlib.Omega.{arith}
-use Rattle.words.specs.Lists.{filter, takeWhile, dropWhile, some, all, All, Pairs, In, lastOr}
+use Rattle.words.specs.Lists.{filter, takeWhile, dropWhile, some, all, All, Pairs, In, lastOr, firstNo}
 use Rattle.words.proofs.Tests.{T-of, off-T, no-T, both, by-test, and-comm, and-assoc}
 
 and-in : (a b : Bool) → (a ≡ true → b ≡ true) → a ≡ (b && a)
@@ -282,3 +282,33 @@ module _ {A B : Type 0} where
   unfolding flatMap
   all-flat P f [] h = tt
   all-flat P f (x ∷ xs) h = all-append P (f x) (flatMap f xs) (h .0) (all-flat P f xs (h .1))
+
+pub first-no : (b : Bool) (n : ℕ) (ts : List (Bool × ℕ)) → b ≡ false → firstNo ((b, n) ∷ ts) ≡ firstNo ts
+unfolding firstNo
+first-no b n ts h = rw h
+
+module _ {A : Type 0} where
+  -- what passes and what does not are the whole
+  pub length-parts : (p : A → Bool) (xs : List A) → length (filter p xs) + length (filter (λ x. not (p x)) xs) ≡ length xs
+  unfolding filter
+  length-parts p [] = refl
+  length-parts p (x ∷ xs) = by-test (p x) (λ e. rw e (omega (arith, length-parts p xs))) (λ e. rw e (omega (arith, length-parts p xs)))
+
+  -- a fact of every element holds of the last
+  pub all-end : (P : A → Type 0) (x : A) (xs : List A) → All P (x ∷ xs) → P (lastOr x xs)
+  all-end P x xs h = all-last P x xs (h .0) (h .1)
+
+  pub last-append : (d : A) (us : List A) (x : A) (xs : List A) → lastOr d (us ++ x ∷ xs) ≡ lastOr x xs
+  unfolding lastOr
+  last-append d [] x xs = refl
+  last-append d (u ∷ us) x xs = last-append u us x xs
+
+  -- all but the last, and the last
+  pub last-split : (x : A) (xs : List A) → (us : List A) × (x ∷ xs ≡ us ++ lastOr x xs ∷ [])
+  unfolding lastOr
+  last-split x [] = ([], refl)
+  last-split x (y ∷ ys) = let r = last-split y ys in (x ∷ r .0, ap (x ∷_) (r .1))
+
+  pub pairs-two : {Q R S : A → A → Type 0} → ((x y : A) → Q x y → R x y → S x y) → (xs : List A) → Pairs Q xs → Pairs R xs → Pairs S xs
+  pairs-two f [] h k = tt
+  pairs-two f (x ∷ xs) h k = (all-two (λ y q r. f x y q r) xs (h .0) (k .0), pairs-two f xs (h .1) (k .1))

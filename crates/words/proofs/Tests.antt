@@ -163,3 +163,10 @@ first-0 false n ts e = (refl, e)
 pub first-else : (b : Bool) (n : ℕ) (ts us : List (Bool × ℕ)) → (b ≡ false → firstNo ts ≡ firstNo us) → firstNo ((b, n) ∷ ts) ≡ firstNo ((b, n) ∷ us)
 unfolding firstNo
 first-else b n ts us f = cond-else b n (firstNo ts) (firstNo us) f
+
+-- done or refused, by one number
+pub either-way : (m n : ℕ) {C : Type 0} → m ≡ n → ((m ≡ 0) → (n ≡ 0) → C) → ((m ≡ 0 → ⊥) → (n ≡ 0 → ⊥) → C) → C
+either-way m n e f g =
+    by-test (eqb m 0)
+    (λ t. let z = eq-of m 0 t in f z (sym e ∙ z))
+    (λ t. let z = ne-of m 0 t in g z (λ q. z (e ∙ q)))

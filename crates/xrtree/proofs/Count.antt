@@ -27,5 +27,3 @@ inner lo hi rs = box lo hi 0 hi rs
 pub inner-three : (rs : List Region) (lo k hi : ℕ) → lo ≤ k → k < hi → length (home lo k hi rs) + length (inner lo k rs) + length (inner (suc k) hi rs) ≤ length (inner lo hi rs)
 unfolding box
 inner-three rs lo k hi l u = filter-three (boxb lo (suc k) k hi) (boxb lo k 0 k) (boxb (suc k) hi 0 hi) (boxb lo hi 0 hi) (λ x. home-three lo k hi x l u) rs
-
--- THE RECORDS SUFFICE

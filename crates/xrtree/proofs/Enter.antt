@@ -2,7 +2,7 @@
 -- Assumes nothing.
 use Prim.Native.Nat.{ℕ, zero, suc, _≤_, _<_}
 use mathlib.Core.Path.{_≡_, refl, sym, ap, _∙_}
-use mathlib.Core.Bool.{Bool, true, false, cond}
+use mathlib.Core.Bool.{Bool, true, false}
 use mathlib.Core.List.{List, [], _∷_, _++_}
 use lib.Dec.{leb, ltb}
 use native.Mathlib.Omega.{arith}
@@ -11,7 +11,7 @@ use Rattle.words.proofs.Tests.{of-T, off-T, by-test, lt-of, nlt-of, le-of, nle-
 use Rattle.words.proofs.Listed.{filter-append, all-filter}
 use Rattle.regions.specs.declared.Region.{Region}
 use Rattle.xrtree.specs.Tree.{Entry, Key, Tree}
-use Rattle.xrtree.specs.Claims.{pageAt, Page, Claim, InKids, In}
+use Rattle.xrtree.specs.Claims.{Page, Claim, InKids, In}
 use Rattle.xrtree.specs.Local.{boxb, box, InBox, LocalKids, Local}
 use Rattle.xrtree.proofs.Box.{of-box, to-box}
 use Rattle.xrtree.specs.Moves.{keyWith, out, own, ownKids, put}

@@ -6,14 +6,14 @@ use mathlib.Core.Bool.{true}
 use mathlib.Core.List.{List, [], _∷_, map}
 use lib.Dec.{leb, ltb}
 use Rattle.words.specs.Lists.{filter, takeWhile, all, allPairs, count, sum}
+use Rattle.words.proofs.Tests.{T-of}
+use Rattle.words.proofs.Says.{lt-says, all-says}
 use Rattle.regions.specs.Positions.{wellBound, wellFormed, endsBefore, contains, nested, stabs, holds}
 use Rattle.regions.specs.Sets.{Set, of}
 use Rattle.regions.specs.declared.Region.{Region}
 use Rattle.xrtree.specs.Tree.{Entry, Key, Tree, weave, listed, keysIn, stabList, allKids, regions, keysOf, pagePlaces, recordPlaces}
 use Rattle.xrtree.specs.Rules.{filledBelow, filled, firstPlace, linked, startsFirst, rule1, separates, rule2, noneStabs, sameRegion, sameRegions, pageLists, flagged, rule3, ownLists, rule4, pairRight, pairsRight, rule5, sharesKept, rule6, onceOrFree, placed}
 use Rattle.xrtree.specs.Search.{run, looks, cost, findKids, stepsKids, holdsFree, find, steps}
-use Rattle.words.proofs.Tests.{T-of}
-use Rattle.words.proofs.Says.{lt-says, all-says}
 use Rattle.xrtree.specs.Claims.{leafAt, pageAt, Good}
 use Rattle.xrtree.proofs.Rules.{rules-good}
 

@@ -14,8 +14,8 @@ use Rattle.regions.specs.Positions.{stabs}
 use Rattle.regions.specs.declared.Region.{Region}
 use Rattle.xrtree.specs.Tree.{Entry, Key, Tree, weave, listed, regionOf, keysOf, keysIn}
 use Rattle.xrtree.specs.Rules.{noneStabs}
-use Rattle.xrtree.specs.Claims.{keysUnder, Page, Claim, Within, InKids, In, Fits, ListsIn, Kids, Lists, flagOf, Flags}
-use Rattle.xrtree.specs.Local.{boxb, box, home, InBox, FlagKids, FlagsAre, Local, LocalFlags, LocalKids}
+use Rattle.xrtree.specs.Claims.{keysUnder, Within, InKids, In, Fits, ListsIn, Kids, Lists, flagOf, Flags}
+use Rattle.xrtree.specs.Local.{boxb, box, InBox, FlagKids, FlagsAre, Local, LocalFlags, LocalKids}
 use Rattle.xrtree.proofs.Box.{of-box, to-box, of-stabs, to-stabs, is-box-in}
 
 -- f says of a region that no key of some keys stabs it; none of these keys lies in lo .. hi - 1, and lo - 1 and hi are such keys (or 0 and top)

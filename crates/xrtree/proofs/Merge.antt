@@ -2,7 +2,7 @@
 -- Assumes nothing.
 use Prim.Native.Nat.{ℕ, suc, _≤_, _<_}
 use mathlib.Core.Path.{_≡_, refl, sym, ap, _∙_, subst}
-use mathlib.Core.Bool.{Bool, false, _&&_, _||_, cond}
+use mathlib.Core.Bool.{Bool, false, _&&_, cond}
 use mathlib.Core.List.{List, [], _∷_, _++_, map}
 use lib.Dec.{leb, ltb, eqb, leb→le, ltb→lt, le→leb, lt→ltb, eqb-refl}
 use native.Mathlib.Omega.{arith}
@@ -62,8 +62,6 @@ module _ (rs : List Region) (o : Pairs Over rs) (h lo hi : ℕ) (ls bs : List (T
         flags = flag-join (LocalFlags h) lo hi (k .key) (k .list) ds qs ls m bs z (w .flags .1) (w .flags .2);
         firsts = first-join (Claim FirstIs NoLeaf h) lo hi (k .key) (k .list) ds qs ls m bs z (w .firsts .1) (w .firsts .2);
       }
-
--- LEAF MERGE. What is left of the key's list is in no list any more: those entries get flag 0
 
 -- starts tell the regions of a set apart: a start stands in a filter of it where its region passes
 pub any-none : (P : Region → Bool) (s : ℕ) (xs : List Region) → All (λ (r : Region). s < r .start) xs → anyStart s (filter P xs) ≡ false

@@ -148,7 +148,3 @@ good-rules top h t g =
       fifth = rule5-says h t .so-yes (g .firsts);
       nest = proper-nested top rs (g .set);
     }
-
--- THE SEARCH, from the rules as declared: what it finds, and its steps
-
--- ONE REGION MORE, or one less

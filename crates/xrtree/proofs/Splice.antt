@@ -5,7 +5,6 @@ use mathlib.Core.Path.{_≡_, sym, ap, ap₂, _∙_}
 use mathlib.Core.Bool.{_&&_, cond}
 use mathlib.Core.List.{List, [], _∷_, _++_, map}
 use lib.Dec.{leb, ltb, eqb, leb→le, ltb→lt, le→leb, lt→ltb}
-use lib.ListN.{length, take, drop}
 use native.Mathlib.Omega.{arith}
 use Rattle.words.specs.Lists.{filter, takeWhile, dropWhile, All, Pairs}
 use Rattle.words.proofs.Tests.{T-of, off-T, no-T, both, by-test, and-left, and-right}
@@ -34,8 +33,6 @@ module _ {A : Type 0} where
   page-at Q P lo hi (c ∷ pre) cs last g =
       let r = page-at Q P (suc (c .1 .key)) hi pre cs last (g .2) in
       record { here = r .here; refill = λ cs′ last′ w. (g .0, g .1, r .refill cs′ last′ w) }
-
--- A KEY WITH ANOTHER LIST, and the stored pair that belongs to it. (Where the records lie is any list of places)
 
 -- LEAF SPLIT. What the new key stabs of the entries in no list
 module _ (rs : List Region) where
@@ -78,7 +75,6 @@ unfolding marked
 flags-right k lo hi l [] s f = tt
 flags-right k lo hi l (e ∷ es) s f =
     (ap (cond (stabs k (e .region)) 1) (f .0) ∙ sym (flag-right k lo hi l (e .region) (s .0 .0) (s .0 .1)), flags-right k lo hi l es (s .1) (f .1))
-    -- A KEY CAME DOWN with its list l at places ps: each key left of it takes what it stabs, first to last (`sunk`); and what is left
 
 module _ (rs : List Region) (o : Pairs Over rs) {A : Type 0} (R P : ℕ → ℕ → A → Type 0) where
   -- A CHILD BECAME TWO, with the key k between them, whose list so far is home lo k hi′ (hi′ the child's upper bound): the page above

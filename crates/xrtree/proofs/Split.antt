@@ -3,16 +3,14 @@
 -- Assumes nothing.
 use Prim.Native.Nat.{ℕ, zero, suc, _≤_, _<_}
 use mathlib.Core.Path.{_≡_, refl, sym, ap, _∙_, subst}
-use mathlib.Core.Bool.{_&&_}
 use mathlib.Core.List.{List, [], _∷_, _++_, map, append-nil, append-assoc}
-use lib.Dec.{eqb}
 use native.Mathlib.Omega.{arith}
-use Rattle.words.specs.Lists.{filter, takeWhile, dropWhile, All, Pairs}
+use Rattle.words.specs.Lists.{takeWhile, dropWhile, All, Pairs}
 use Rattle.words.proofs.Listed.{all-left, all-right}
 use Rattle.regions.specs.Positions.{stabs}
 use Rattle.regions.specs.declared.Region.{Region}
 use Rattle.xrtree.specs.Tree.{Entry, Key, Leaf, Tree, weave, regionOf}
-use Rattle.xrtree.specs.Claims.{leafAt, pageAt, Page, Claim, Between, Within, In, Over, pairIs}
+use Rattle.xrtree.specs.Claims.{leafAt, pageAt, Page, Claim, Between, Within, In, Over, pairIs, regionsIn, Fits}
 use Rattle.xrtree.specs.Local.{ListIs, NoLeaf, NoKey, Local, LocalFlags, Here, FirstIs, Part}
 use Rattle.xrtree.specs.Holes.{loAfter}
 use Rattle.xrtree.specs.Moves.{firstStart, firstEnd, keyWith, marked, trim, raised, keptPlaces, fresh}
@@ -153,4 +151,9 @@ module _ (rs : List Region) (o : Pairs Over rs) (h lo hi : ℕ) (ls bs : List (T
         firsts = (first-of (k .key) ps (raised (k .key) ls (k .list)), g .0, g .1);
       }
 
--- THE REGIONS STAY
+-- WHAT A STEP ASKS of a page, from a key on
+pub record Facts (top : ℕ) (rs : List Region) (h lo hi q : ℕ) (cs : List (Tree h × Key)) (last : Tree h) : Type 0 where
+  pub part : Part rs (suc h) lo hi (pageAt q cs last)
+  pub near : Here rs lo hi (regionsIn h cs last)
+  pub pairs : Pairs Over (regionsIn h cs last)
+  pub well : All (Fits top) (regionsIn h cs last)

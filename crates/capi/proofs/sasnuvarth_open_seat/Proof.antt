@@ -4,9 +4,9 @@ use borrow.Author.Needs.{needs}
 use Rattle.capi.proofs.Calls.{opens-seat}
 use Rattle.capi.proofs.sasnuvarth_open_seat.Statement.{statement}
 use Rattle.capi.proofs.sasnuvarth_open_seat.Tie as tie
-use Rattle.capi.proofs.desk_left.Reads as desk-left-reads
-use Rattle.capi.proofs.kind_of.Reads as kind-of-reads
-use Rattle.capi.proofs.seats_of.Reads as seats-of-reads
+use Rattle.flat.proofs.desk_left.Reads as desk-left-reads
+use Rattle.regions.proofs.kind_of.Reads as kind-of-reads
+use Rattle.flat.proofs.seats_of.Reads as seats-of-reads
 use Rattle.desk.proofs.open_seat_by_value.Reads as open-seat-by-value-reads
 
 seats-of-requires : tie.Need-seats-of-requires

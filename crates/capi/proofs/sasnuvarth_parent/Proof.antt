@@ -2,12 +2,12 @@
 -- Assumes nothing.
 use borrow.Author.Needs.{needs}
 use Rattle.words.specs.Lists.{some}
-use Rattle.index.specs.Searches.{parentNumber, parentFound}
+use Rattle.queries.specs.Searches.{parentNumber, parentFound}
 use Rattle.capi.specs.Border.{told}
 use Rattle.capi.proofs.Told.{tells}
 use Rattle.capi.proofs.sasnuvarth_parent.Statement.{statement}
 use Rattle.capi.proofs.sasnuvarth_parent.Tie as tie
-use Rattle.index.proofs.find_parent.Reads as find-parent-reads
+use Rattle.queries.proofs.find_parent.Reads as find-parent-reads
 
 find-parent-requires : tie.Need-find-parent-requires
 find-parent-requires c κs = search needs

@@ -4,7 +4,7 @@ use borrow.Author.Needs.{needs}
 use Rattle.capi.proofs.Calls.{part-there, part-refused}
 use Rattle.capi.proofs.sasnuvarth_part.Statement.{statement}
 use Rattle.capi.proofs.sasnuvarth_part.Tie as tie
-use Rattle.capi.proofs.seats_of.Reads as seats-of-reads
+use Rattle.flat.proofs.seats_of.Reads as seats-of-reads
 use Rattle.desk.proofs.part_number_by_value.Reads as part-number-by-value-reads
 use Rattle.words.proofs.wide.Reads as wide-reads
 

@@ -4,8 +4,8 @@ use borrow.Author.Needs.{needs}
 use Rattle.capi.proofs.Calls.{rounds}
 use Rattle.capi.proofs.sasnuvarth_round.Statement.{statement}
 use Rattle.capi.proofs.sasnuvarth_round.Tie as tie
-use Rattle.capi.proofs.desk_left.Reads as desk-left-reads
-use Rattle.capi.proofs.seats_of.Reads as seats-of-reads
+use Rattle.flat.proofs.desk_left.Reads as desk-left-reads
+use Rattle.flat.proofs.seats_of.Reads as seats-of-reads
 use Rattle.desk.proofs.round_by_value.Reads as round-by-value-reads
 
 seats-of-requires : tie.Need-seats-of-requires

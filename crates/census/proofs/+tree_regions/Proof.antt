@@ -5,7 +5,8 @@ use mathlib.Core.Path.{_≡_, refl, _∙_}
 use native.Mathlib.Omega.{arith}
 use lib.ListN.{length}
 use Rattle.pages.specs.Layout.{pageOf}
-use Rattle.census.specs.Pass.{pass, passed, Fitting}
+use Rattle.nesting.specs.Pass.{passed, Fitting}
+use Rattle.census.specs.Pass.{pass}
 use Rattle.census.proofs.Walk.{at-leaf, kidRegions, kids-more, kids-done, kids-all, fills-here, fills-leaf, fills-below}
 use borrow.Fn.Kinds.{In}
 use borrow.Fn.PlainCycle.{Measures, is, falls, and}

@@ -5,7 +5,8 @@ use mathlib.Core.Path.{_≡_, refl, _∙_}
 use native.Mathlib.Omega.{arith}
 use lib.ListN.{length}
 use Rattle.pages.specs.Layout.{pageOf}
-use Rattle.census.specs.Pass.{pass, passed, Fitting}
+use Rattle.nesting.specs.Pass.{passed, Fitting}
+use Rattle.census.specs.Pass.{pass}
 use Rattle.census.proofs.Walk.{leafRegions, leaf-more, leaf-done, leaf-all, fills-here}
 use Rattle.census.proofs.leaf_regions.Statement.{statement}
 use Rattle.census.proofs.leaf_regions.Tie as tie

@@ -1,33 +1,32 @@
 -- `census::take_census` meets its contract: the pass over the whole image decides rule 6, and what it took of each share is what the account holds.
 -- Assumes nothing.
-use mathlib.Core.Path.{refl, sym, _∙_}
+use mathlib.Core.Path.{sym, ap, _∙_}
+use lib.Dec.{leb}
 use native.Mathlib.Omega.{arith}
+use Rattle.words.specs.Lists.{sum}
 use borrow.Author.Tests.{not-true, not-false}
 use Rattle.census.proofs.Whole.{header-in, one-page, fills-whole, start-fits, pass-whole, told-wrong, shares-over, whole-decides, whole-left}
 use borrow.Author.Needs.{needs}
 use Rattle.census.proofs.take_census.Statement.{statement}
 use Rattle.census.proofs.take_census.Tie as tie
 
+shares-of-requires : tie.Need-shares-of-requires
+shares-of-requires c κs = header-in _ (c .before .pre)
+
 shares-fit-requires : tie.Need-shares-fit-requires
-shares-fit-requires c κs = header-in _ (c .before .pre)
+shares-fit-requires c κs = search needs
 
 wrong-requires : tie.Need-wrong-requires
 wrong-requires c κs = search needs
 
 returns : tie.Need-returns
-returns c = told-wrong _ (c .wrong .result) (c .wrong .ensures) (shares-over _ (sym (c .before .before .shares-fit .ensures) ∙ not-true _ (c .before .if1 .taken)))
-
-slice-aggregate-copy-shares : tie.Need-slice-aggregate-copy-shares
-slice-aggregate-copy-shares c = search needs
-
-copy-shares-requires : tie.Need-copy-shares-requires
-copy-shares-requires c κs = (header-in _ (c .before .before .before .before .pre), refl)
+returns c = told-wrong _ (c .wrong .result) (c .wrong .ensures) (shares-over _ (ap (λ s. leb (sum s) 500) (sym (c .before .before .before .shares-of .ensures)) ∙ sym (c .before .before .shares-fit .ensures) ∙ not-true _ (c .before .if1 .taken)))
 
 word-requires : tie.Need-word-requires
 word-requires c κs = search needs
 
 sub-tree-regions : tie.Need-sub-tree-regions
-sub-tree-regions c = one-page _ _ (c .before .before .before .before .before .before .before .pre) (c .word .ensures)
+sub-tree-regions c = one-page _ _ (c .before .before .before .before .before .pre) (c .word .ensures)
 
 word-requires-2 : tie.Need-word-requires-2
 word-requires-2 c κs = search needs
@@ -40,8 +39,8 @@ slice-aggregate-tree-regions-2 c = search needs
 
 tree-regions-requires : tie.Need-tree-regions-requires
 tree-regions-requires c κs = (
-  fills-whole _ _ _ (c .before .before .before .before .before .before .before .before .before .before .pre) (c .before .before .before .word .ensures) (c .before .before .word2 .ensures),
-  start-fits _ _ (c .before .before .before .before .before .copy-shares .ensures) (sym (c .before .before .before .before .before .before .before .before .shares-fit .ensures) ∙ not-false _ (c .before .before .before .before .before .before .before .if1 .left)),
+  fills-whole _ _ _ (c .before .before .before .before .before .before .before .before .pre) (c .before .before .before .word .ensures) (c .before .before .word2 .ensures),
+  start-fits _ _ (c .before .before .before .before .before .before .shares-of .ensures) (ap (λ s. leb (sum s) 500) (sym (c .before .before .before .before .before .before .shares-of .ensures)) ∙ sym (c .before .before .before .before .before .shares-fit .ensures) ∙ not-false _ (c .before .before .before .before .if1 .left)),
 )
 
 wrong-requires-2 : tie.Need-wrong-requires-2
@@ -51,23 +50,23 @@ returns-2 : tie.Need-returns-2
 returns-2 c =
     told-wrong _ (c .wrong2 .result) (c .wrong2 .ensures)
     (sym (not-true _ (c .before .if2 .taken))
-    ∙ whole-decides _ _ _ _ (c .before .before .before .before .before .tree-regions .ensures .0 ∙ pass-whole _ _ _ _ _ (c .before .before .before .before .before .before .before .before .before .word .ensures) (c .before .before .before .before .before .before .before .before .word2 .ensures) (c .before .before .before .before .before .before .before .before .before .before .before .copy-shares .ensures))
-    (c .before .before .before .before .before .before .before .before .before .before .before .before .before .before .before .before .pre) (λ i. omega (arith, c .before .before .before .before .before .before .before .before .before .before .before .before .before .before .before .shared-slice-known .given i)) (sym (c .before .before .before .before .before .before .before .before .before .before .before .before .before .before .shares-fit .ensures) ∙ not-false _ (c .before .before .before .before .before .before .before .before .before .before .before .before .before .if1 .left)))
+    ∙ whole-decides _ _ _ _ (c .before .before .before .before .before .tree-regions .ensures .0 ∙ pass-whole _ _ _ _ _ (c .before .before .before .before .before .before .before .before .before .word .ensures) (c .before .before .before .before .before .before .before .before .word2 .ensures) (c .before .before .before .before .before .before .before .before .before .before .before .before .shares-of .ensures))
+    (c .before .before .before .before .before .before .before .before .before .before .before .before .before .before .pre) (λ i. omega (arith, c .before .before .before .before .before .before .before .before .before .before .before .before .before .shared-slice-known .given i)) (ap (λ s. leb (sum s) 500) (sym (c .before .before .before .before .before .before .before .before .before .before .before .before .shares-of .ensures)) ∙ sym (c .before .before .before .before .before .before .before .before .before .before .before .shares-fit .ensures) ∙ not-false _ (c .before .before .before .before .before .before .before .before .before .before .if1 .left)))
 
 slice-aggregate-taken : tie.Need-slice-aggregate-taken
 slice-aggregate-taken c = search needs
 
 taken-requires : tie.Need-taken-requires
 taken-requires c κs =
-    let left = whole-left _ _ _ _ (c .before .before .before .before .before .tree-regions .ensures .0 ∙ pass-whole _ _ _ _ _ (c .before .before .before .before .before .before .before .before .before .word .ensures) (c .before .before .before .before .before .before .before .before .word2 .ensures) (c .before .before .before .before .before .before .before .before .before .before .before .copy-shares .ensures))
+    let left = whole-left _ _ _ _ (c .before .before .before .before .before .tree-regions .ensures .0 ∙ pass-whole _ _ _ _ _ (c .before .before .before .before .before .before .before .before .before .word .ensures) (c .before .before .before .before .before .before .before .before .word2 .ensures) (c .before .before .before .before .before .before .before .before .before .before .before .before .shares-of .ensures))
     (not-false _ (c .before .if2 .left)) in
     λ a h. omega (arith, left a h)
 
 returns-3 : tie.Need-returns-3
 returns-3 c =
-    let whole = c .before .before .before .before .before .before .tree-regions .ensures .0 ∙ pass-whole _ _ _ _ _ (c .before .before .before .before .before .before .before .before .before .before .word .ensures) (c .before .before .before .before .before .before .before .before .before .word2 .ensures) (c .before .before .before .before .before .before .before .before .before .before .before .before .copy-shares .ensures) in (
+    let whole = c .before .before .before .before .before .before .tree-regions .ensures .0 ∙ pass-whole _ _ _ _ _ (c .before .before .before .before .before .before .before .before .before .before .word .ensures) (c .before .before .before .before .before .before .before .before .before .word2 .ensures) (c .before .before .before .before .before .before .before .before .before .before .before .before .before .shares-of .ensures) in (
       sym (not-false _ (c .before .before .if2 .left))
-          ∙ whole-decides _ _ _ _ whole (c .before .before .before .before .before .before .before .before .before .before .before .before .before .before .before .before .before .pre) (λ i. omega (arith, c .before .before .before .before .before .before .before .before .before .before .before .before .before .before .before .before .shared-slice-known .given i)) (sym (c .before .before .before .before .before .before .before .before .before .before .before .before .before .before .before .shares-fit .ensures) ∙ not-false _ (c .before .before .before .before .before .before .before .before .before .before .before .before .before .before .if1 .left)),
+          ∙ whole-decides _ _ _ _ whole (c .before .before .before .before .before .before .before .before .before .before .before .before .before .before .before .pre) (λ i. omega (arith, c .before .before .before .before .before .before .before .before .before .before .before .before .before .before .shared-slice-known .given i)) (ap (λ s. leb (sum s) 500) (sym (c .before .before .before .before .before .before .before .before .before .before .before .before .before .shares-of .ensures)) ∙ sym (c .before .before .before .before .before .before .before .before .before .before .before .before .shares-fit .ensures) ∙ not-false _ (c .before .before .before .before .before .before .before .before .before .before .before .if1 .left)),
       λ t a h. omega (arith, whole-left _ _ _ _ whole (not-false _ (c .before .before .if2 .left)) a h, c .taken .ensures a h),
     )
 
@@ -75,11 +74,10 @@ pub take-census-spec : {M : Type 1} → statement M
 take-census-spec =
     tie.close
     (tie.spec
+    shares-of-requires
     shares-fit-requires
     wrong-requires
     returns
-    slice-aggregate-copy-shares
-    copy-shares-requires
     word-requires
     sub-tree-regions
     word-requires-2

@@ -7,8 +7,8 @@ use native.Mathlib.Omega.{arith}
 use lib.ListN.{length, length-take}
 use Rattle.console.proofs.line.Statement.{statement}
 use Rattle.console.proofs.line.Tie as tie
-use Rattle.console.proofs.behind.Reads as behind-reads
 use Rattle.console.proofs.text.Reads as text-reads
+use Rattle.lines.proofs.break_behind.Reads as break-behind-reads
 use Rattle.lines.proofs.put_number.Reads as put-number-reads
 
 abbrev Inv-loop : tie.InvT-loop
@@ -32,20 +32,20 @@ shared-slice-read-put-number c = search needs
 put-number-requires : tie.Need-put-number-requires Inv-loop μ-loop
 put-number-requires c κs = search needs
 
-sub-behind : tie.Need-sub-behind Inv-loop μ-loop
-sub-behind c = search needs
+add-i : tie.Need-add-i Inv-loop μ-loop
+add-i c = search needs
 
-behind-requires : tie.Need-behind-requires Inv-loop μ-loop
-behind-requires c κs = search needs
+sub-break-behind : tie.Need-sub-break-behind Inv-loop μ-loop
+sub-break-behind c = search needs
+
+break-behind-requires : tie.Need-break-behind-requires Inv-loop μ-loop
+break-behind-requires c κs = search needs
 
 array-write-bytes : tie.Need-array-write-bytes Inv-loop μ-loop
 array-write-bytes c = search needs
 
 add-at : tie.Need-add-at Inv-loop μ-loop
 add-at c = search needs
-
-add-i : tie.Need-add-i Inv-loop μ-loop
-add-i c = search needs
 
 loop-less : tie.Need-loop-less Inv-loop μ-loop
 loop-less c = search needs
@@ -76,11 +76,11 @@ line-spec =
     mul-put-number
     shared-slice-read-put-number
     put-number-requires
-    sub-behind
-    behind-requires
+    add-i
+    sub-break-behind
+    break-behind-requires
     array-write-bytes
     add-at
-    add-i
     loop-less
     loop-again
     array-share-prefix-bytes

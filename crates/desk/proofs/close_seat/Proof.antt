@@ -1,9 +1,8 @@
 -- `desk::close_seat` meets its contract: a walk of its MIR, by hand. The desk is tested by a call that looks at it, two tests refuse by an early return, and `closes` decides of the seat, which is stored as it comes back.
 -- Assumes nothing.
-use mathlib.Core.Path.{_≡_, refl, sym, _∙_, ap, subst}
+use mathlib.Core.Path.{_≡_, refl, sym, ap, subst}
 use mathlib.Core.Bool.{true, false}
 use Prim.Native.Nat.{ℕ, _<_, _^_}
-use native.Mathlib.Omega.{arith}
 use mathlib.Core.List.{List, [], _∷_}
 use lib.Dec.{ltb→lt, lit<}
 use lib.ListN.{length, set, length-set}
@@ -43,26 +42,26 @@ use denote.Triple.Spec.{Meets, tripleOf}
 use denote.Triple.Table.{entered, cited}
 use denote.Triple.Walked.{says, Stays, stay-dropped, stay-slice, walkOf, goes-dropped, goes-slice, Walks, ends-at, walked, walk-meets}
 use denote.Exit.{yes}
-use Rattle.words.specs.Lists.{firstNo}
-use Rattle.words.proofs.Tests.{lt-yes, lt-no}
-use Rattle.regions.specs.Desk.{seatAt, deskFits, closeSeatNo}
+use Rattle.regions.specs.Desk.{seatAt, deskFits}
 use Rattle.regions.specs.declared.Seat.{Seat}
 use Rattle.desk.specs.Promises.{ClosesSeat}
-use Rattle.desk.specs.Steps.{Closes}
-use Rattle.desk.specs.declared.Change.{Change}
-use Rattle.desk.proofs.Change as G
-use Rattle.desk.proofs.Change.Laws as G′
+use Rattle.seats.specs.Steps.{Closes}
+use Rattle.seats.specs.declared.Change.{Change}
+use Rattle.seats.proofs.Change as G
+use Rattle.seats.proofs.Change.Laws as G′
 use Rattle.desk.proofs.AskDesk.{DeskFits, asks-desk}
-use Rattle.desk.proofs.Tested.{not-not, seat-below, wide, eight-seats, set-unless}
+use Rattle.desk.proofs.Answered.{close-no-desk, close-no-seat, close-stored}
+use Rattle.seats.proofs.Fitting.{eight-seats}
+use Rattle.desk.proofs.Tested.{not-not, seat-below, wide}
 use Rattle.desk.proofs.Frames.{is-false, has, none, env, rotate, frees-all}
-use Rattle.desk.proofs.Rows.{R, vals, tells, bytes, typed, seat-out, seat-owned}
+use Rattle.desk.proofs.Rows.{R, vals, bytes, typed, seat-out, seat-owned}
 use Rattle.desk.proofs.desk_fits.Symbol as desk-fits-def
 use Rattle.desk.proofs.desk_fits.Symbol.{name as #desk·desk-fits}
 use Rattle.desk.proofs.desk_fits.Met as desk-fits-thm
-use Rattle.desk.proofs.closes as step
-use Rattle.desk.proofs.closes.Symbol as step-def
-use Rattle.desk.proofs.closes.Symbol.{name as #desk·closes}
-use Rattle.desk.proofs.closes.Met as step-thm
+use Rattle.seats.proofs.closes as step
+use Rattle.seats.proofs.closes.Symbol as step-def
+use Rattle.seats.proofs.closes.Symbol.{name as #seats·closes}
+use Rattle.seats.proofs.closes.Met as step-thm
 use Rattle.desk.proofs.close_seat.Key.{name as #desk·close-seat}
 use Rattle.desk.proofs.close_seat as close′
 use Rattle.desk.proofs.close_seat.Statement as stated
@@ -84,21 +83,13 @@ module _ (ys : List Seat) (i : ℕ) where
   Says r = Closes (seatAt ys i) (r .number) (r .seat)
 
   no-desk : deskFits ys ≡ false → Ends ys 11
-  unfolding closeSeatNo firstNo
-  no-desk e = record { long = refl; fits = lit< tt; kept = record { number-is = rw e refl; desk-is = refl } }
+  no-desk e = record { long = refl; fits = lit< tt; kept = close-no-desk ys i e }
 
   no-seat : deskFits ys ≡ true → 7 < i → Ends ys 9
-  unfolding closeSeatNo firstNo
-  no-seat e l = record { long = refl; fits = lit< tt; kept = record { number-is = rw (e, lt-yes 7 i l) refl; desk-is = refl } }
+  no-seat e l = record { long = refl; fits = lit< tt; kept = close-no-seat ys i e l }
 
   changed : deskFits ys ≡ true → i < 8 → (r : Change) → r .number < 2 ^ 32 → Says r → Ends (set ys i (r .seat)) (r .number)
-  unfolding closeSeatNo firstNo
-  changed e l r f s =
-      record {
-        long = length-set ys i (r .seat);
-        fits = f;
-        kept = record { number-is = rw (e, lt-no 7 i (omega arith)) (s .number-is); desk-is = ap (λ (d : Seat). set ys i d) (s .seat-is) ∙ set-unless (r .number) ys i _ };
-      }
+  changed e l r f s = record { long = length-set ys i (r .seat); fits = f; kept = close-stored ys i e l (r .number) (r .seat) s }
 
 -- the contract that the proof cites
 module _ {M : Type 1} (𝓤 : URA M) (H : Heap 𝓤) (A : Atoms 𝓤) (mem : Memory → SProp 𝓤) (run : Routine → Fun 𝓤) where
@@ -151,7 +142,7 @@ module _ {M : Type 1} (𝓤 : URA M) (H : Heap 𝓤) (A : Atoms 𝓤) (W : Given
   goes-step = qed W (‵ (R .own v₀ (vals v₀)) ∷ []) ∵ nothing ! $ move ! (1 ∷ 0 ∷ []) $ fjoin ! $ nothing ! $ join ! $ frame ! $ done !
 
   module _ (C : Calls 𝓤 H) (Λ : Loops 𝓤 H) where
-    walk : FmC 𝓤 H (W .laws) C → Triple 𝓤 (C #desk·desk-fits) (DeskFits 𝓤 H A mem run) → Triple 𝓤 (C #desk·closes) (Step 𝓤 H A mem run)
+    walk : FmC 𝓤 H (W .laws) C → Triple 𝓤 (C #desk·desk-fits) (DeskFits 𝓤 H A mem run) → Triple 𝓤 (C #seats·closes) (Step 𝓤 H A mem run)
         → ent 𝓤 (onEntry 𝓤 H A close′.signature (κ, tt) (q, tt) a at) (WpFn 𝓤 H C Λ code.function (s ∷ vint w32 i ∷ []) Post)
     walk fm known-fits known =
         qed W ((‵ (flft κ q) ⊛ ‵ ftrue) ∷ ‵ (owns (MutSlice (named 0) κ R ∷ u32 ∷ []) a at) ∷ []) ∵
@@ -202,14 +193,14 @@ module _ {M : Type 1} (𝓤 : URA M) (H : Heap 𝓤) (A : Atoms 𝓤) (W : Given
         frees-all ! (code.function .locals) ks (has _ ∷ has _ ∷ has _ ∷ has _ ∷ has _ ∷ has _ ∷ has _ ∷ has _ ∷ has _ ∷ has _ ∷ has _ ∷ has _ ∷ has _ ∷ []) $ by ! (exits (set ys i (r .seat)) (r .number) (changed ys i ok lt r (f .1 .0 .1) e))))))))))))))))))))))
 
 module _ {M : Type 1} (𝓤 : URA M) (H : Heap 𝓤) (A : Atoms 𝓤) (W : Given 𝓤 H A) (mem : Memory → SProp 𝓤) (run : Routine → Fun 𝓤) where
-  walks : (C : Calls 𝓤 H) (Λ : Loops 𝓤 H) → FmC 𝓤 H (W .laws) C → Triple 𝓤 (C #desk·desk-fits) (DeskFits 𝓤 H A mem run) → Triple 𝓤 (C #desk·closes) (Step 𝓤 H A mem run) → Walks 𝓤 H A close′.ended stayed (WpFn 𝓤 H C Λ code.function) (close′.clauses 𝓤 H A mem run)
+  walks : (C : Calls 𝓤 H) (Λ : Loops 𝓤 H) → FmC 𝓤 H (W .laws) C → Triple 𝓤 (C #desk·desk-fits) (DeskFits 𝓤 H A mem run) → Triple 𝓤 (C #seats·closes) (Step 𝓤 H A mem run) → Walks 𝓤 H A close′.ended stayed (WpFn 𝓤 H C Λ code.function) (close′.clauses 𝓤 H A mem run)
   walks C Λ fm known-fits known =
       walked 𝓤 H A close′.ended stayed (close′.clauses 𝓤 H A mem run) (WpFn 𝓤 H C Λ code.function)
       (λ κs. (slice-vals, (uint-vals w32, tt)))
       (λ κs. (mut-slice-tells (named 0) (κs .0) R, (uint-tells w32, tt)))
       (λ κs qs bounds a g are. via 𝓤 _ (fst∗ 𝓤 _ (emp 𝓤)) (walk 𝓤 H A W mem run (κs .0) (qs .0) (a .0 .ptr .0) (a .0 .ptr .1) (a .0 .name) (a .0 .now) (a .1 .0) (are .0 .0 .1) (are .1 .0 .1) C Λ fm known-fits known))
 
-meets : {M : Type 1} (𝓤 : URA M) (H : Heap 𝓤) (A : Atoms 𝓤) → Given 𝓤 H A → (mem : Memory → SProp 𝓤) (run : Routine → Fun 𝓤) (𝓣 : Tables 𝓤 H) → Triple 𝓤 (𝓣 .C #desk·desk-fits) (DeskFits 𝓤 H A mem run) → Triple 𝓤 (𝓣 .C #desk·closes) (Step 𝓤 H A mem run)
+meets : {M : Type 1} (𝓤 : URA M) (H : Heap 𝓤) (A : Atoms 𝓤) → Given 𝓤 H A → (mem : Memory → SProp 𝓤) (run : Routine → Fun 𝓤) (𝓣 : Tables 𝓤 H) → Triple 𝓤 (𝓣 .C #desk·desk-fits) (DeskFits 𝓤 H A mem run) → Triple 𝓤 (𝓣 .C #seats·closes) (Step 𝓤 H A mem run)
     → Meets 𝓤 H A close′.signature (WpFn 𝓤 H (𝓣 .C) (𝓣 .Λ) code.function) (close′.spec 𝓤 H A mem run)
 meets 𝓤 H A W mem run 𝓣 known-fits known =
     walk-meets 𝓤 H A close′.ended stayed W
@@ -223,4 +214,4 @@ close-seat-spec 𝓤 H 𝓜 𝓖 𝓡 =
     (tables 𝓤 H 𝓜 𝓡 code.env .C) (tables 𝓤 H 𝓜 𝓡 code.env .Λ) #desk·close-seat code.function (code.unfolded 𝓤 H 𝓜 𝓡)
     (meets 𝓤 H (𝓖 .A) (givenOf 𝓤 H 𝓜 𝓖) (𝓜 .mem) (𝓡 .run) (tablesOf 𝓤 H 𝓜 (tables 𝓤 H 𝓜 𝓡 code.env))
     (cited 𝓤 H (DeskFits 𝓤 H (𝓖 .A) (𝓜 .mem) (𝓡 .run)) 𝓜 𝓡 code.env #desk·desk-fits desk-fits-def.routine code.calls-desk·desk-fits (desk-fits-thm.met 𝓤 H 𝓜 𝓖 𝓡))
-    (cited 𝓤 H (Step 𝓤 H (𝓖 .A) (𝓜 .mem) (𝓡 .run)) 𝓜 𝓡 code.env #desk·closes step-def.routine code.calls-desk·closes (step-thm.met 𝓤 H 𝓜 𝓖 𝓡)))
+    (cited 𝓤 H (Step 𝓤 H (𝓖 .A) (𝓜 .mem) (𝓡 .run)) 𝓜 𝓡 code.env #seats·closes step-def.routine code.calls-seats·closes (step-thm.met 𝓤 H 𝓜 𝓖 𝓡)))

@@ -4,7 +4,6 @@ use mathlib.Core.Path.{_≡_, refl, sym, _∙_, ap}
 use mathlib.Core.Bool.{Bool, false, _&&_}
 use mathlib.Core.Logic.{⊎-elim}
 use Prim.Native.Nat.{ℕ, _+_, _<_}
-use native.Mathlib.Numerals.{add-one}
 use native.Mathlib.Nat.{eq-or-lt-of-le}
 use native.Mathlib.Omega.{arith}
 use mathlib.Core.List.{List, [], _∷_}
@@ -48,13 +47,13 @@ use denote.Exit.{yes}
 use borrow.Author.Tests.{lt-ltb, le-ltb}
 use Rattle.regions.specs.Desk.{closed, seatFits, deskFits}
 use Rattle.regions.specs.declared.Seat.{Seat}
-use Rattle.desk.proofs.Turned.{fitsAt, fits-all}
+use Rattle.seats.proofs.Fitting.{fitsAt, fits-next, fits-all}
 use Rattle.desk.proofs.Frames.{has, none, env, slots, rotate, frees-all, Turn, Falls, falls}
 use Rattle.desk.proofs.Rows.{R, vals, tells, bytes, copy, typed, seat-out, seat-owned}
-use Rattle.desk.proofs.still_fits as still-fits
-use Rattle.desk.proofs.still_fits.Symbol as still-fits-def
-use Rattle.desk.proofs.still_fits.Symbol.{name as #desk·still-fits}
-use Rattle.desk.proofs.still_fits.Met as still-fits-thm
+use Rattle.seats.proofs.still_fits as still-fits
+use Rattle.seats.proofs.still_fits.Symbol as still-fits-def
+use Rattle.seats.proofs.still_fits.Symbol.{name as #seats·still-fits}
+use Rattle.seats.proofs.still_fits.Met as still-fits-thm
 use Rattle.desk.proofs.desk_fits.Key.{name as #desk·desk-fits}
 use Rattle.desk.proofs.desk_fits as desk-fits
 use Rattle.desk.proofs.desk_fits.Statement as stated
@@ -63,10 +62,6 @@ use Rattle.desk.proofs.desk_fits.Code.Mir as body
 
 abbrev stayed : Stays (desk-fits.ended .signature .params) (desk-fits.ended .kept)
 stayed = (stay-none-slice (0 ∷ []) tt (plain (λ _. R)) yes, tt)
-
-ok-next : (i : ℕ) (ys : List Seat) → (fitsAt i ys && seatFits (getD ys i closed)) ≡ fitsAt (i + 1) ys
-unfolding fitsAt
-ok-next i ys = ap (λ (k : ℕ). fitsAt k ys) (sym (add-one i))
 
 -- the contract that the proof cites
 module _ {M : Type 1} (𝓤 : URA M) (H : Heap 𝓤) (A : Atoms 𝓤) (mem : Memory → SProp 𝓤) (run : Routine → Fun 𝓤) where
@@ -110,7 +105,7 @@ module _ {M : Type 1} (𝓤 : URA M) (H : Heap 𝓤) (A : Atoms 𝓤) (W : Given
   goes-still : (t : Bool) (d : Seat) → ent 𝓤 (sem 𝓤 H A (R .own d (vals d))) (StillFits 𝓤 H A mem run .pre (to-still t d))
   goes-still t d = qed W (‵ (R .own d (vals d)) ∷ []) ∵ nothing ! $ move ! (1 ∷ 0 ∷ []) $ fjoin ! $ owned ! bool (Is bool) (bool-makes 𝓤 H A W) t _ refl $ fjoin ! $ nothing ! $ join ! $ frame ! $ done !
 
-  module _ (𝓣 : Tables 𝓤 H) (known : Triple 𝓤 (𝓣 .C #desk·still-fits) (StillFits 𝓤 H A mem run)) where
+  module _ (𝓣 : Tables 𝓤 H) (known : Triple 𝓤 (𝓣 .C #seats·still-fits) (StillFits 𝓤 H A mem run)) where
     module _ (l₀ l₁ l₂ l₃ l₄ l₅ l₆ l₇ l₈ l₉ : ℕ) (q′ : Share) where
       abbrev ks : List ℕ
       ks = l₀ ∷ l₁ ∷ l₂ ∷ l₃ ∷ l₄ ∷ l₅ ∷ l₆ ∷ l₇ ∷ l₈ ∷ l₉ ∷ []
@@ -145,7 +140,7 @@ module _ {M : Type 1} (𝓤 : URA M) (H : Heap 𝓤) (A : Atoms 𝓤) (W : Given
           split ! $ move ! (1 ∷ []) $ use1 W (raw (fact 𝓤 (r ≡ (fitsAt i ys && seatFits d)))) (still-of 𝓤 H A mem run (fitsAt i ys) d r) $ heard ! (r ≡ (fitsAt i ys && seatFits d)) (λ e. split ! $ drop ! $
           peeks ! bool (Is bool) (shows 𝓤 H A bool) r (v ∷ []) (λ is. drop ! $
           land ! (from ! (stop !)) (store ! 7 refl (bool-lawful 𝓤 H A W .typed r _ is .0)) $ rewrite ! 7 (λ (u : Val). ‵ (fat fullShare tyBool l₂ 0 u)) (ap only (bool-tells r _ is)) refl $
-          rewrite ! 7 (λ (z : Bool). ‵ (fat fullShare tyBool l₂ 0 (vbool z))) (e ∙ ok-next i ys) refl $
+          rewrite ! 7 (λ (z : Bool). ‵ (fat fullShare tyBool l₂ 0 (vbool z))) (e ∙ fits-next i ys) refl $
           assigns-last ! (bin ! (load ! (from ! (stop !)) (look ! 11 refl)) (lit ! tt) (record { fits = omega (arith, room .0) })) (from ! (stop !)) (store ! 11 refl (tt, record { fits = omega (arith, room .0) })) $
           forget ! 15 refl $ forget ! 17 refl $ forget ! 19 refl $ forget ! 21 refl $
           again ! (Falls n) Inv t (record { i = i + 1; le = omega arith }) (omega arith))))))
@@ -180,11 +175,11 @@ module _ {M : Type 1} (𝓤 : URA M) (H : Heap 𝓤) (A : Atoms 𝓤) (W : Given
         (λ t. ⊎-elim (ends l₀ l₁ l₂ l₃ l₄ l₅ l₆ l₇ l₈ l₉ q′ t) (more l₀ l₁ l₂ l₃ l₄ l₅ l₆ l₇ l₈ l₉ q′ t) (eq-or-lt-of-le (t .le))) (record { i = 0; le = omega arith }))))))))))))
 
 module _ {M : Type 1} (𝓤 : URA M) (H : Heap 𝓤) (A : Atoms 𝓤) (W : Given 𝓤 H A) (mem : Memory → SProp 𝓤) (run : Routine → Fun 𝓤) where
-  desk-fits-walks : (𝓣 : Tables 𝓤 H) → Triple 𝓤 (𝓣 .C #desk·still-fits) (StillFits 𝓤 H A mem run) → Walks 𝓤 H A desk-fits.ended stayed (WpFn 𝓤 H (𝓣 .C) (𝓣 .Λ) code.function) (desk-fits.clauses 𝓤 H A mem run)
+  desk-fits-walks : (𝓣 : Tables 𝓤 H) → Triple 𝓤 (𝓣 .C #seats·still-fits) (StillFits 𝓤 H A mem run) → Walks 𝓤 H A desk-fits.ended stayed (WpFn 𝓤 H (𝓣 .C) (𝓣 .Λ) code.function) (desk-fits.clauses 𝓤 H A mem run)
   desk-fits-walks 𝓣 known = walked 𝓤 H A desk-fits.ended stayed (desk-fits.clauses 𝓤 H A mem run) (WpFn 𝓤 H (𝓣 .C) (𝓣 .Λ) code.function) (λ κs. (slice-vals, tt)) (λ κs. (shr-slice-tells (named 0) (κs .0) R, tt))
       (λ κs qs bounds a g are. via 𝓤 _ (fst∗ 𝓤 _ (emp 𝓤)) (walk 𝓤 H A W mem run (κs .0) (qs .0) (a .0 .ptr .0) (a .0 .ptr .1) (a .0 .name) (a .0 .now) (are .0 .0 .1) 𝓣 known))
 
-desk-fits-meets : {M : Type 1} (𝓤 : URA M) (H : Heap 𝓤) (A : Atoms 𝓤) → Given 𝓤 H A → (mem : Memory → SProp 𝓤) (run : Routine → Fun 𝓤) (𝓣 : Tables 𝓤 H) → Triple 𝓤 (𝓣 .C #desk·still-fits) (StillFits 𝓤 H A mem run)
+desk-fits-meets : {M : Type 1} (𝓤 : URA M) (H : Heap 𝓤) (A : Atoms 𝓤) → Given 𝓤 H A → (mem : Memory → SProp 𝓤) (run : Routine → Fun 𝓤) (𝓣 : Tables 𝓤 H) → Triple 𝓤 (𝓣 .C #seats·still-fits) (StillFits 𝓤 H A mem run)
     → Meets 𝓤 H A desk-fits.signature (WpFn 𝓤 H (𝓣 .C) (𝓣 .Λ) code.function) (desk-fits.spec 𝓤 H A mem run)
 desk-fits-meets 𝓤 H A W mem run 𝓣 known =
     walk-meets 𝓤 H A desk-fits.ended stayed W (goes-none-slice 𝓤 H A W 1 (0 ∷ []) tt (plain (λ _. R)) yes, tt) (desk-fits.clauses 𝓤 H A mem run)
@@ -196,4 +191,4 @@ desk-fits-spec 𝓤 H 𝓜 𝓖 𝓡 =
     entered 𝓤 H (tripleOf 𝓤 H (𝓖 .A) desk-fits.signature (desk-fits.spec 𝓤 H (𝓖 .A) (𝓜 .mem) (𝓡 .run)))
     (tables 𝓤 H 𝓜 𝓡 code.env .C) (tables 𝓤 H 𝓜 𝓡 code.env .Λ) #desk·desk-fits code.function (code.unfolded 𝓤 H 𝓜 𝓡)
     (desk-fits-meets 𝓤 H (𝓖 .A) (givenOf 𝓤 H 𝓜 𝓖) (𝓜 .mem) (𝓡 .run) (tablesOf 𝓤 H 𝓜 (tables 𝓤 H 𝓜 𝓡 code.env))
-    (cited 𝓤 H (StillFits 𝓤 H (𝓖 .A) (𝓜 .mem) (𝓡 .run)) 𝓜 𝓡 code.env #desk·still-fits still-fits-def.routine code.calls-desk·still-fits (still-fits-thm.met 𝓤 H 𝓜 𝓖 𝓡)))
+    (cited 𝓤 H (StillFits 𝓤 H (𝓖 .A) (𝓜 .mem) (𝓡 .run)) 𝓜 𝓡 code.env #seats·still-fits still-fits-def.routine code.calls-seats·still-fits (still-fits-thm.met 𝓤 H 𝓜 𝓖 𝓡)))

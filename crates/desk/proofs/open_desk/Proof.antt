@@ -47,20 +47,20 @@ use denote.Triple.Table.{entered, cited}
 use denote.Triple.Walked.{says, Stays, stay-slice, walkOf, goes-slice, Walks, ends-at, walked, walk-meets}
 use borrow.Author.Tests.{lt-ltb, le-ltb}
 use Rattle.words.specs.Lists.{firstNo}
-use Rattle.words.proofs.Tests.{eq-yes}
 use Rattle.regions.specs.Desk.{closed, openDeskNo}
 use Rattle.regions.specs.declared.Seat.{Seat}
 use Rattle.regions.proofs.Seat as S
 use Rattle.regions.proofs.Seat.Laws as S′
 use Rattle.desk.specs.Promises.{OpensDesk}
+use Rattle.desk.proofs.Answered.{desk-opened}
 use Rattle.desk.proofs.Tested.{not-ne}
-use Rattle.desk.proofs.Turned.{putAt, put-long, put-all}
+use Rattle.turns.proofs.Turned.{putAt, put-long, put-all}
 use Rattle.desk.proofs.Frames.{is-false, Cell, has, none, env, slots, rotate, frees-all, Turn, Falls, falls}
 use Rattle.desk.proofs.Rows.{R, val, vals, IsSeat, tells, bytes, typed, seat-out, seat-owned}
-use Rattle.desk.proofs.closed_seat as shut
-use Rattle.desk.proofs.closed_seat.Symbol as shut-def
-use Rattle.desk.proofs.closed_seat.Symbol.{name as #desk·closed-seat}
-use Rattle.desk.proofs.closed_seat.Met as shut-thm
+use Rattle.regions.proofs.closed_seat as shut
+use Rattle.regions.proofs.closed_seat.Symbol as shut-def
+use Rattle.regions.proofs.closed_seat.Symbol.{name as #regions·closed-seat}
+use Rattle.regions.proofs.closed_seat.Met as shut-thm
 use Rattle.desk.proofs.open_desk.Key.{name as #desk·open-desk}
 use Rattle.desk.proofs.open_desk as open′
 use Rattle.desk.proofs.open_desk.Statement as stated
@@ -89,17 +89,9 @@ module _ (ys : List Seat) where
   no-desk e r n = subst (Ends ys) (sym n) (record { long = refl; fits = lit< tt; kept = record { number-is = rw e refl; desk-is = refl } })
 
   all-closed : length ys ≡ 8 → (i : ℕ) → i ≡ 8 → Ends (D i) 0
-  unfolding openDeskNo firstNo
   all-closed e i f =
-      record {
-        long = put-long (λ _. closed) i ys;
-        fits = lit< tt;
-        kept =
-            record {
-              number-is = rw (eq-yes (length ys) 8 e) refl;
-              desk-is = ap D f ∙ put-all (λ _. closed) 8 ys (replicate 8 closed) closed e refl (λ j h. sym (getD-replicate 8 j closed closed h));
-            };
-      }
+      let each : D i ≡ replicate 8 closed = ap D f ∙ put-all (λ _. closed) 8 ys (replicate 8 closed) closed e refl (λ j h. sym (getD-replicate 8 j closed closed h)) in
+      record { long = put-long (λ _. closed) i ys; fits = lit< tt; kept = subst (OpensDesk ys 0) (sym each) (desk-opened ys e) }
 
 -- the contract that the proof cites
 module _ {M : Type 1} (𝓤 : URA M) (H : Heap 𝓤) (A : Atoms 𝓤) (mem : Memory → SProp 𝓤) (run : Routine → Fun 𝓤) where
@@ -142,7 +134,7 @@ module _ {M : Type 1} (𝓤 : URA M) (H : Heap 𝓤) (A : Atoms 𝓤) (W : Given
   goes-shut : ent 𝓤 (emp 𝓤) (Shut 𝓤 H A mem run .pre to-shut)
   goes-shut = qed W [] ∵ nothing ! $ nothing ! $ join ! $ frame ! $ done !
 
-  module _ (𝓣 : Tables 𝓤 H) (known : Triple 𝓤 (𝓣 .C #desk·closed-seat) (Shut 𝓤 H A mem run)) where
+  module _ (𝓣 : Tables 𝓤 H) (known : Triple 𝓤 (𝓣 .C #regions·closed-seat) (Shut 𝓤 H A mem run)) where
     module _ (l₀ l₁ l₂ l₃ l₄ l₅ l₆ l₇ l₈ : ℕ) (c₄ c₅ : Cell) (gc : IsSeat closed) (eight : length ys ≡ 8) where
       abbrev ks : List ℕ
       ks = l₀ ∷ l₁ ∷ l₂ ∷ l₃ ∷ l₄ ∷ l₅ ∷ l₆ ∷ l₇ ∷ l₈ ∷ []
@@ -209,14 +201,14 @@ module _ {M : Type 1} (𝓤 : URA M) (H : Heap 𝓤) (A : Atoms 𝓤) (W : Given
         (λ t. ⊎-elim (ends l₀ l₁ l₂ l₃ l₄ l₅ l₆ l₇ l₈ (has (vint w64 (length ys))) (has (vbool (not (eqb (length ys) 8)))) gc eight t) (more l₀ l₁ l₂ l₃ l₄ l₅ l₆ l₇ l₈ (has (vint w64 (length ys))) (has (vbool (not (eqb (length ys) 8)))) gc eight t) (eq-or-lt-of-le (t .le))) (record { i = 0; le = omega arith })))))))))))))))
 
 module _ {M : Type 1} (𝓤 : URA M) (H : Heap 𝓤) (A : Atoms 𝓤) (W : Given 𝓤 H A) (mem : Memory → SProp 𝓤) (run : Routine → Fun 𝓤) where
-  walks : (𝓣 : Tables 𝓤 H) → Triple 𝓤 (𝓣 .C #desk·closed-seat) (Shut 𝓤 H A mem run) → Walks 𝓤 H A open′.ended stayed (WpFn 𝓤 H (𝓣 .C) (𝓣 .Λ) code.function) (open′.clauses 𝓤 H A mem run)
+  walks : (𝓣 : Tables 𝓤 H) → Triple 𝓤 (𝓣 .C #regions·closed-seat) (Shut 𝓤 H A mem run) → Walks 𝓤 H A open′.ended stayed (WpFn 𝓤 H (𝓣 .C) (𝓣 .Λ) code.function) (open′.clauses 𝓤 H A mem run)
   walks 𝓣 known =
       walked 𝓤 H A open′.ended stayed (open′.clauses 𝓤 H A mem run) (WpFn 𝓤 H (𝓣 .C) (𝓣 .Λ) code.function)
       (λ κs. (slice-vals, tt))
       (λ κs. (mut-slice-tells (named 0) (κs .0) R, tt))
       (λ κs qs bounds a g are. via 𝓤 _ (fst∗ 𝓤 _ (emp 𝓤)) (walk 𝓤 H A W mem run (κs .0) (qs .0) (a .0 .ptr .0) (a .0 .ptr .1) (a .0 .name) (a .0 .now) (are .0 .0 .1) 𝓣 known))
 
-meets : {M : Type 1} (𝓤 : URA M) (H : Heap 𝓤) (A : Atoms 𝓤) → Given 𝓤 H A → (mem : Memory → SProp 𝓤) (run : Routine → Fun 𝓤) (𝓣 : Tables 𝓤 H) → Triple 𝓤 (𝓣 .C #desk·closed-seat) (Shut 𝓤 H A mem run)
+meets : {M : Type 1} (𝓤 : URA M) (H : Heap 𝓤) (A : Atoms 𝓤) → Given 𝓤 H A → (mem : Memory → SProp 𝓤) (run : Routine → Fun 𝓤) (𝓣 : Tables 𝓤 H) → Triple 𝓤 (𝓣 .C #regions·closed-seat) (Shut 𝓤 H A mem run)
     → Meets 𝓤 H A open′.signature (WpFn 𝓤 H (𝓣 .C) (𝓣 .Λ) code.function) (open′.spec 𝓤 H A mem run)
 meets 𝓤 H A W mem run 𝓣 known =
     walk-meets 𝓤 H A open′.ended stayed W
@@ -229,4 +221,4 @@ open-desk-spec 𝓤 H 𝓜 𝓖 𝓡 =
     entered 𝓤 H (tripleOf 𝓤 H (𝓖 .A) open′.signature (open′.spec 𝓤 H (𝓖 .A) (𝓜 .mem) (𝓡 .run)))
     (tables 𝓤 H 𝓜 𝓡 code.env .C) (tables 𝓤 H 𝓜 𝓡 code.env .Λ) #desk·open-desk code.function (code.unfolded 𝓤 H 𝓜 𝓡)
     (meets 𝓤 H (𝓖 .A) (givenOf 𝓤 H 𝓜 𝓖) (𝓜 .mem) (𝓡 .run) (tablesOf 𝓤 H 𝓜 (tables 𝓤 H 𝓜 𝓡 code.env))
-    (cited 𝓤 H (Shut 𝓤 H (𝓖 .A) (𝓜 .mem) (𝓡 .run)) 𝓜 𝓡 code.env #desk·closed-seat shut-def.routine code.calls-desk·closed-seat (shut-thm.met 𝓤 H 𝓜 𝓖 𝓡)))
+    (cited 𝓤 H (Shut 𝓤 H (𝓖 .A) (𝓜 .mem) (𝓡 .run)) 𝓜 𝓡 code.env #regions·closed-seat shut-def.routine code.calls-regions·closed-seat (shut-thm.met 𝓤 H 𝓜 𝓖 𝓡)))

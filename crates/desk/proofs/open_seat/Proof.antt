@@ -1,9 +1,8 @@
 -- `desk::open_seat` meets its contract: a walk of its MIR, by hand. The desk is tested by a call that looks at it, two tests refuse by an early return, and `opens` decides of the seat, which is stored as it comes back.
 -- Assumes nothing.
-use mathlib.Core.Path.{_≡_, refl, sym, _∙_, ap, subst}
+use mathlib.Core.Path.{_≡_, refl, sym, ap, subst}
 use mathlib.Core.Bool.{true, false}
 use Prim.Native.Nat.{ℕ, _<_, _^_}
-use native.Mathlib.Omega.{arith}
 use mathlib.Core.List.{List, [], _∷_}
 use lib.Dec.{ltb→lt, lit<}
 use lib.ListN.{length, set, length-set}
@@ -44,29 +43,29 @@ use denote.Triple.Spec.{Meets, tripleOf}
 use denote.Triple.Table.{entered, cited}
 use denote.Triple.Walked.{says, Stays, stay-dropped, stay-slice, walkOf, goes-dropped, goes-slice, Walks, ends-at, walked, walk-meets}
 use denote.Exit.{yes}
-use Rattle.words.specs.Lists.{firstNo}
-use Rattle.words.proofs.Tests.{lt-yes, lt-no}
-use Rattle.regions.specs.Desk.{seatAt, deskFits, openSeatNo}
+use Rattle.regions.specs.Desk.{seatAt, deskFits}
 use Rattle.regions.specs.declared.Kind.{Kind}
 use Rattle.regions.specs.declared.Seat.{Seat}
 use Rattle.regions.proofs.Kind as N
 use Rattle.regions.proofs.Kind.Laws as N′
 use Rattle.desk.specs.Promises.{OpensSeat}
-use Rattle.desk.specs.Steps.{Opens}
-use Rattle.desk.specs.declared.Change.{Change}
-use Rattle.desk.proofs.Change as G
-use Rattle.desk.proofs.Change.Laws as G′
+use Rattle.seats.specs.Steps.{Opens}
+use Rattle.seats.specs.declared.Change.{Change}
+use Rattle.seats.proofs.Change as G
+use Rattle.seats.proofs.Change.Laws as G′
 use Rattle.desk.proofs.AskDesk.{DeskFits, asks-desk}
-use Rattle.desk.proofs.Tested.{not-not, seat-below, wide, eight-seats, set-unless}
+use Rattle.desk.proofs.Answered.{open-no-desk, open-no-seat, open-stored}
+use Rattle.seats.proofs.Fitting.{eight-seats}
+use Rattle.desk.proofs.Tested.{not-not, seat-below, wide}
 use Rattle.desk.proofs.Frames.{is-false, has, none, env, rotate, frees-all}
-use Rattle.desk.proofs.Rows.{R, val, vals, tells, bytes, typed, seat-out, seat-owned}
+use Rattle.desk.proofs.Rows.{R, vals, bytes, typed, seat-out, seat-owned}
 use Rattle.desk.proofs.desk_fits.Symbol as desk-fits-def
 use Rattle.desk.proofs.desk_fits.Symbol.{name as #desk·desk-fits}
 use Rattle.desk.proofs.desk_fits.Met as desk-fits-thm
-use Rattle.desk.proofs.opens as step
-use Rattle.desk.proofs.opens.Symbol as step-def
-use Rattle.desk.proofs.opens.Symbol.{name as #desk·opens}
-use Rattle.desk.proofs.opens.Met as step-thm
+use Rattle.seats.proofs.opens as step
+use Rattle.seats.proofs.opens.Symbol as step-def
+use Rattle.seats.proofs.opens.Symbol.{name as #seats·opens}
+use Rattle.seats.proofs.opens.Met as step-thm
 use Rattle.desk.proofs.open_seat.Key.{name as #desk·open-seat}
 use Rattle.desk.proofs.open_seat as open′
 use Rattle.desk.proofs.open_seat.Statement as stated
@@ -94,21 +93,13 @@ module _ (ys : List Seat) (i : ℕ) (account : ℕ) (kind : Kind) (limit : ℕ) 
   Says r = Opens (seatAt ys i) account kind limit (r .number) (r .seat)
 
   no-desk : deskFits ys ≡ false → Ends ys 11
-  unfolding openSeatNo firstNo
-  no-desk e = record { long = refl; fits = lit< tt; kept = record { number-is = rw e refl; desk-is = refl } }
+  no-desk e = record { long = refl; fits = lit< tt; kept = open-no-desk ys i account kind limit e }
 
   no-seat : deskFits ys ≡ true → 7 < i → Ends ys 9
-  unfolding openSeatNo firstNo
-  no-seat e l = record { long = refl; fits = lit< tt; kept = record { number-is = rw (e, lt-yes 7 i l) refl; desk-is = refl } }
+  no-seat e l = record { long = refl; fits = lit< tt; kept = open-no-seat ys i account kind limit e l }
 
   changed : deskFits ys ≡ true → i < 8 → (r : Change) → r .number < 2 ^ 32 → Says r → Ends (set ys i (r .seat)) (r .number)
-  unfolding openSeatNo firstNo
-  changed e l r f s =
-      record {
-        long = length-set ys i (r .seat);
-        fits = f;
-        kept = record { number-is = rw (e, lt-no 7 i (omega arith)) (s .number-is); desk-is = ap (λ (d : Seat). set ys i d) (s .seat-is) ∙ set-unless (r .number) ys i _ };
-      }
+  changed e l r f s = record { long = length-set ys i (r .seat); fits = f; kept = open-stored ys i account kind limit e l (r .number) (r .seat) s }
 
 -- the contract that the proof cites
 module _ {M : Type 1} (𝓤 : URA M) (H : Heap 𝓤) (A : Atoms 𝓤) (mem : Memory → SProp 𝓤) (run : Routine → Fun 𝓤) where
@@ -161,7 +152,7 @@ module _ {M : Type 1} (𝓤 : URA M) (H : Heap 𝓤) (A : Atoms 𝓤) (W : Given
   goes-step = qed W (‵ (R .own v₀ (vals v₀)) ∷ []) ∵ nothing ! $ owned ! u32 (Is u32) (uint-makes 𝓤 H A W w32) limit _ (refl, g-limit) $ fjoin ! $ owned ! N.the-row (Is N.the-row) (EL.makes N.the-type N′.the-plain 𝓤 H A) kind _ g-kind $ fjoin ! $ owned ! u32 (Is u32) (uint-makes 𝓤 H A W w32) account _ (refl, g-account) $ fjoin ! $ move ! (1 ∷ 0 ∷ []) $ fjoin ! $ nothing ! $ join ! $ frame ! $ done !
 
   module _ (C : Calls 𝓤 H) (Λ : Loops 𝓤 H) where
-    walk : FmC 𝓤 H (W .laws) C → Triple 𝓤 (C #desk·desk-fits) (DeskFits 𝓤 H A mem run) → Triple 𝓤 (C #desk·opens) (Step 𝓤 H A mem run)
+    walk : FmC 𝓤 H (W .laws) C → Triple 𝓤 (C #desk·desk-fits) (DeskFits 𝓤 H A mem run) → Triple 𝓤 (C #seats·opens) (Step 𝓤 H A mem run)
         → ent 𝓤 (onEntry 𝓤 H A open′.signature (κ, tt) (q, tt) a at) (WpFn 𝓤 H C Λ code.function (s ∷ vint w32 i ∷ vint w32 account ∷ kval kind ∷ vint w32 limit ∷ []) Post)
     walk fm known-fits known =
         qed W ((‵ (flft κ q) ⊛ ‵ ftrue) ∷ ‵ (owns (MutSlice (named 0) κ R ∷ u32 ∷ u32 ∷ N.the-row ∷ u32 ∷ []) a at) ∷ []) ∵
@@ -212,14 +203,14 @@ module _ {M : Type 1} (𝓤 : URA M) (H : Heap 𝓤) (A : Atoms 𝓤) (W : Given
         frees-all ! (code.function .locals) ks (has _ ∷ has _ ∷ has _ ∷ has _ ∷ has _ ∷ has _ ∷ has _ ∷ has _ ∷ has _ ∷ has _ ∷ has _ ∷ has _ ∷ has _ ∷ has _ ∷ has _ ∷ has _ ∷ []) $ by ! (exits (set ys i (r .seat)) (r .number) (changed ys i account kind limit ok lt r (f .1 .0 .1) e)))))))))))))))))))))))))
 
 module _ {M : Type 1} (𝓤 : URA M) (H : Heap 𝓤) (A : Atoms 𝓤) (W : Given 𝓤 H A) (mem : Memory → SProp 𝓤) (run : Routine → Fun 𝓤) where
-  walks : (C : Calls 𝓤 H) (Λ : Loops 𝓤 H) → FmC 𝓤 H (W .laws) C → Triple 𝓤 (C #desk·desk-fits) (DeskFits 𝓤 H A mem run) → Triple 𝓤 (C #desk·opens) (Step 𝓤 H A mem run) → Walks 𝓤 H A open′.ended stayed (WpFn 𝓤 H C Λ code.function) (open′.clauses 𝓤 H A mem run)
+  walks : (C : Calls 𝓤 H) (Λ : Loops 𝓤 H) → FmC 𝓤 H (W .laws) C → Triple 𝓤 (C #desk·desk-fits) (DeskFits 𝓤 H A mem run) → Triple 𝓤 (C #seats·opens) (Step 𝓤 H A mem run) → Walks 𝓤 H A open′.ended stayed (WpFn 𝓤 H C Λ code.function) (open′.clauses 𝓤 H A mem run)
   walks C Λ fm known-fits known =
       walked 𝓤 H A open′.ended stayed (open′.clauses 𝓤 H A mem run) (WpFn 𝓤 H C Λ code.function)
       (λ κs. (slice-vals, (uint-vals w32, (uint-vals w32, (EL.vals N.the-type N′.the-laws, (uint-vals w32, tt))))))
       (λ κs. (mut-slice-tells (named 0) (κs .0) R, (uint-tells w32, (uint-tells w32, (EL.tells N.the-type N′.the-laws, (uint-tells w32, tt))))))
       (λ κs qs bounds a g are. via 𝓤 _ (fst∗ 𝓤 _ (emp 𝓤)) (walk 𝓤 H A W mem run (κs .0) (qs .0) (a .0 .ptr .0) (a .0 .ptr .1) (a .0 .name) (a .0 .now) (a .1 .0) (a .1 .1 .0) (a .1 .1 .1 .0) (a .1 .1 .1 .1 .0) (are .0 .0 .1) (are .1 .0 .1) (are .1 .1 .0 .1) (are .1 .1 .1 .0) (are .1 .1 .1 .1 .0 .1) C Λ fm known-fits known))
 
-meets : {M : Type 1} (𝓤 : URA M) (H : Heap 𝓤) (A : Atoms 𝓤) → Given 𝓤 H A → (mem : Memory → SProp 𝓤) (run : Routine → Fun 𝓤) (𝓣 : Tables 𝓤 H) → Triple 𝓤 (𝓣 .C #desk·desk-fits) (DeskFits 𝓤 H A mem run) → Triple 𝓤 (𝓣 .C #desk·opens) (Step 𝓤 H A mem run)
+meets : {M : Type 1} (𝓤 : URA M) (H : Heap 𝓤) (A : Atoms 𝓤) → Given 𝓤 H A → (mem : Memory → SProp 𝓤) (run : Routine → Fun 𝓤) (𝓣 : Tables 𝓤 H) → Triple 𝓤 (𝓣 .C #desk·desk-fits) (DeskFits 𝓤 H A mem run) → Triple 𝓤 (𝓣 .C #seats·opens) (Step 𝓤 H A mem run)
     → Meets 𝓤 H A open′.signature (WpFn 𝓤 H (𝓣 .C) (𝓣 .Λ) code.function) (open′.spec 𝓤 H A mem run)
 meets 𝓤 H A W mem run 𝓣 known-fits known =
     walk-meets 𝓤 H A open′.ended stayed W
@@ -233,4 +224,4 @@ open-seat-spec 𝓤 H 𝓜 𝓖 𝓡 =
     (tables 𝓤 H 𝓜 𝓡 code.env .C) (tables 𝓤 H 𝓜 𝓡 code.env .Λ) #desk·open-seat code.function (code.unfolded 𝓤 H 𝓜 𝓡)
     (meets 𝓤 H (𝓖 .A) (givenOf 𝓤 H 𝓜 𝓖) (𝓜 .mem) (𝓡 .run) (tablesOf 𝓤 H 𝓜 (tables 𝓤 H 𝓜 𝓡 code.env))
     (cited 𝓤 H (DeskFits 𝓤 H (𝓖 .A) (𝓜 .mem) (𝓡 .run)) 𝓜 𝓡 code.env #desk·desk-fits desk-fits-def.routine code.calls-desk·desk-fits (desk-fits-thm.met 𝓤 H 𝓜 𝓖 𝓡))
-    (cited 𝓤 H (Step 𝓤 H (𝓖 .A) (𝓜 .mem) (𝓡 .run)) 𝓜 𝓡 code.env #desk·opens step-def.routine code.calls-desk·opens (step-thm.met 𝓤 H 𝓜 𝓖 𝓡)))
+    (cited 𝓤 H (Step 𝓤 H (𝓖 .A) (𝓜 .mem) (𝓡 .run)) 𝓜 𝓡 code.env #seats·opens step-def.routine code.calls-seats·opens (step-thm.met 𝓤 H 𝓜 𝓖 𝓡)))

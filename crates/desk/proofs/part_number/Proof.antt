@@ -45,19 +45,20 @@ use Rattle.words.proofs.Tests.{eq-yes, lt-yes, lt-no}
 use Rattle.regions.specs.Desk.{closed, seatAt, deskFits, bufferFits, partNo}
 use Rattle.regions.specs.declared.Seat.{Seat}
 use Rattle.desk.specs.Promises.{PartNumber}
-use Rattle.desk.specs.Steps.{askedNo}
+use Rattle.seats.specs.Steps.{askedNo}
 use Rattle.desk.proofs.AskDesk.{DeskFits}
-use Rattle.desk.proofs.Tested.{not-not, not-ne, seat-below, wide, eight-seats}
+use Rattle.seats.proofs.Fitting.{eight-seats}
+use Rattle.desk.proofs.Tested.{not-not, not-ne, seat-below, wide}
 use Rattle.desk.proofs.Frames.{is-false, has, none, env, rotate, frees-all, big}
 use Rattle.desk.proofs.Rows.{R, vals, tells, bytes, copy, typed, seat-out, seat-owned}
 use Rattle.desk.proofs.desk_fits as desk-fits
 use Rattle.desk.proofs.desk_fits.Symbol as desk-fits-def
 use Rattle.desk.proofs.desk_fits.Symbol.{name as #desk·desk-fits}
 use Rattle.desk.proofs.desk_fits.Met as desk-fits-thm
-use Rattle.desk.proofs.asked_of as asked
-use Rattle.desk.proofs.asked_of.Symbol as asked-def
-use Rattle.desk.proofs.asked_of.Symbol.{name as #desk·asked-of}
-use Rattle.desk.proofs.asked_of.Met as asked-thm
+use Rattle.seats.proofs.asked_of as asked
+use Rattle.seats.proofs.asked_of.Symbol as asked-def
+use Rattle.seats.proofs.asked_of.Symbol.{name as #seats·asked-of}
+use Rattle.seats.proofs.asked_of.Met as asked-thm
 use Rattle.desk.proofs.part_number.Key.{name as #desk·part-number}
 use Rattle.desk.proofs.part_number as number
 use Rattle.desk.proofs.part_number.Statement as stated
@@ -153,7 +154,7 @@ module _ {M : Type 1} (𝓤 : URA M) (H : Heap 𝓤) (A : Atoms 𝓤) (W : Given
   asked-of r = exE 𝓤 _ (λ ws. snd∗ 𝓤 (sem 𝓤 H A (lasts asked.ended tt (v₀, (n, tt)) ws)) (fact 𝓤 (r ≡ askedNo (v₀ .state) n)))
 
   module _ (C : Calls 𝓤 H) (Λ : Loops 𝓤 H) where
-    walk : FmC 𝓤 H (W .laws) C → Triple 𝓤 (C #desk·desk-fits) (DeskFits 𝓤 H A mem run) → Triple 𝓤 (C #desk·asked-of) (Asked 𝓤 H A mem run)
+    walk : FmC 𝓤 H (W .laws) C → Triple 𝓤 (C #desk·desk-fits) (DeskFits 𝓤 H A mem run) → Triple 𝓤 (C #seats·asked-of) (Asked 𝓤 H A mem run)
         → ent 𝓤 (onEntry 𝓤 H A number.signature (κ, (κ′, tt)) (q, (q′, tt)) a at) (WpFn 𝓤 H C Λ code.function (s ∷ s′ ∷ vint w32 i ∷ vint w32 n ∷ []) Post)
     walk fm known-fits known =
         qed W ((‵ (flft κ q) ⊛ (‵ (flft κ′ q′) ⊛ ‵ ftrue)) ∷ ‵ (owns (ShrSlice (named 0) κ R ∷ ShrSlice (named 1) κ′ u32 ∷ u32 ∷ u32 ∷ []) a at) ∷ []) ∵
@@ -204,14 +205,14 @@ module _ {M : Type 1} (𝓤 : URA M) (H : Heap 𝓤) (A : Atoms 𝓤) (W : Given
         returns ! (look ! 2 refl) $ rotate ! 2 $ frees-all ! (code.function .locals) ks (has _ ∷ has _ ∷ has _ ∷ has _ ∷ has _ ∷ has _ ∷ has _ ∷ has _ ∷ has _ ∷ has _ ∷ has _ ∷ []) $ by ! (exits z (answered ys bs i n ok long lt z (is′ .1) e′))))))))))))))))))))))))))
 
 module _ {M : Type 1} (𝓤 : URA M) (H : Heap 𝓤) (A : Atoms 𝓤) (W : Given 𝓤 H A) (mem : Memory → SProp 𝓤) (run : Routine → Fun 𝓤) where
-  walks : (C : Calls 𝓤 H) (Λ : Loops 𝓤 H) → FmC 𝓤 H (W .laws) C → Triple 𝓤 (C #desk·desk-fits) (DeskFits 𝓤 H A mem run) → Triple 𝓤 (C #desk·asked-of) (Asked 𝓤 H A mem run) → Walks 𝓤 H A number.ended stayed (WpFn 𝓤 H C Λ code.function) (number.clauses 𝓤 H A mem run)
+  walks : (C : Calls 𝓤 H) (Λ : Loops 𝓤 H) → FmC 𝓤 H (W .laws) C → Triple 𝓤 (C #desk·desk-fits) (DeskFits 𝓤 H A mem run) → Triple 𝓤 (C #seats·asked-of) (Asked 𝓤 H A mem run) → Walks 𝓤 H A number.ended stayed (WpFn 𝓤 H C Λ code.function) (number.clauses 𝓤 H A mem run)
   walks C Λ fm known-fits known =
       walked 𝓤 H A number.ended stayed (number.clauses 𝓤 H A mem run) (WpFn 𝓤 H C Λ code.function)
       (λ κs. (slice-vals, (slice-vals, (uint-vals w32, (uint-vals w32, tt)))))
       (λ κs. (shr-slice-tells (named 0) (κs .0) R, (shr-slice-tells (named 1) (κs .1 .0) u32, (uint-tells w32, (uint-tells w32, tt)))))
       (λ κs qs bounds a g are. via 𝓤 _ (fst∗ 𝓤 _ (emp 𝓤)) (walk 𝓤 H A W mem run (κs .0) (κs .1 .0) (qs .0) (qs .1 .0) (a .0 .ptr .0) (a .0 .ptr .1) (a .0 .name) (a .0 .now) (a .1 .0) (a .1 .1 .0) (a .1 .1 .1 .0) (are .0 .0 .1) (are .1 .0 .0 .1) (are .1 .1 .0 .1) (are .1 .1 .1 .0 .1) C Λ fm known-fits known))
 
-meets : {M : Type 1} (𝓤 : URA M) (H : Heap 𝓤) (A : Atoms 𝓤) → Given 𝓤 H A → (mem : Memory → SProp 𝓤) (run : Routine → Fun 𝓤) (𝓣 : Tables 𝓤 H) → Triple 𝓤 (𝓣 .C #desk·desk-fits) (DeskFits 𝓤 H A mem run) → Triple 𝓤 (𝓣 .C #desk·asked-of) (Asked 𝓤 H A mem run)
+meets : {M : Type 1} (𝓤 : URA M) (H : Heap 𝓤) (A : Atoms 𝓤) → Given 𝓤 H A → (mem : Memory → SProp 𝓤) (run : Routine → Fun 𝓤) (𝓣 : Tables 𝓤 H) → Triple 𝓤 (𝓣 .C #desk·desk-fits) (DeskFits 𝓤 H A mem run) → Triple 𝓤 (𝓣 .C #seats·asked-of) (Asked 𝓤 H A mem run)
     → Meets 𝓤 H A number.signature (WpFn 𝓤 H (𝓣 .C) (𝓣 .Λ) code.function) (number.spec 𝓤 H A mem run)
 meets 𝓤 H A W mem run 𝓣 known-fits known =
     walk-meets 𝓤 H A number.ended stayed W
@@ -225,4 +226,4 @@ part-number-spec 𝓤 H 𝓜 𝓖 𝓡 =
     (tables 𝓤 H 𝓜 𝓡 code.env .C) (tables 𝓤 H 𝓜 𝓡 code.env .Λ) #desk·part-number code.function (code.unfolded 𝓤 H 𝓜 𝓡)
     (meets 𝓤 H (𝓖 .A) (givenOf 𝓤 H 𝓜 𝓖) (𝓜 .mem) (𝓡 .run) (tablesOf 𝓤 H 𝓜 (tables 𝓤 H 𝓜 𝓡 code.env))
     (cited 𝓤 H (DeskFits 𝓤 H (𝓖 .A) (𝓜 .mem) (𝓡 .run)) 𝓜 𝓡 code.env #desk·desk-fits desk-fits-def.routine code.calls-desk·desk-fits (desk-fits-thm.met 𝓤 H 𝓜 𝓖 𝓡))
-    (cited 𝓤 H (Asked 𝓤 H (𝓖 .A) (𝓜 .mem) (𝓡 .run)) 𝓜 𝓡 code.env #desk·asked-of asked-def.routine code.calls-desk·asked-of (asked-thm.met 𝓤 H 𝓜 𝓖 𝓡)))
+    (cited 𝓤 H (Asked 𝓤 H (𝓖 .A) (𝓜 .mem) (𝓡 .run)) 𝓜 𝓡 code.env #seats·asked-of asked-def.routine code.calls-seats·asked-of (asked-thm.met 𝓤 H 𝓜 𝓖 𝓡)))

@@ -52,18 +52,19 @@ use borrow.Author.Tests.{lt-ltb, le-ltb}
 use Rattle.regions.specs.Desk.{seatAt, seatFits, deskFits, counts, handedWords}
 use Rattle.regions.specs.declared.Seat.{Seat}
 use Rattle.image.specs.Read.{setOf}
-use Rattle.desk.specs.Steps.{roundsNo}
+use Rattle.seats.specs.Steps.{roundsNo}
 use Rattle.desk.specs.declared.Dealt.{Dealt}
-use Rattle.desk.proofs.Turn as U
-use Rattle.desk.proofs.Turn.Laws as U′
+use Rattle.turns.proofs.Turn as U
+use Rattle.turns.proofs.Turn.Laws as U′
 use Rattle.desk.proofs.Dealt as G
 use Rattle.desk.proofs.Dealt.Laws as G′
 use Rattle.desk.proofs.AskDesk.{DeskFits, asks-desk}
 use Rattle.desk.proofs.AskImages.{sval, Outer, Inner, bothValid, Images, asks-images}
 use Rattle.desk.proofs.AskTurn.{cval, IsCounts, counts-typed, Passed, SeatTurn, asks-turn}
-use Rattle.desk.proofs.Served.{map-same, deskAt, countsAt, desk-next, buffer-next, counts-next, zeros-are, turnsMade, all-made, none-made, seat-now, numberOf, number-is, number-small, tested, rounds}
-use Rattle.desk.proofs.Tested.{each-fits}
-use Rattle.desk.proofs.Turned.{putAt, put-long, pouredAt}
+use Rattle.seats.proofs.Fitting.{eight-seats, each-fits}
+use Rattle.turns.proofs.Turned.{putAt, put-long, pouredAt}
+use Rattle.turns.proofs.ByTurns.{deskAt, countsAt, desk-next, buffer-next, counts-next, seat-now}
+use Rattle.desk.proofs.Served.{map-same, zeros-are, turnsMade, all-made, none-made, numberOf, number-is, number-small, tested, rounds}
 use Rattle.desk.proofs.Frames.{Cell, has, none, env, slots, rotate, frees-all}
 use Rattle.desk.proofs.Rows.{R, vals, bytes, typed, seat-out, seat-owned}
 use Rattle.desk.proofs.images_valid.Symbol as images-def
@@ -72,13 +73,13 @@ use Rattle.desk.proofs.images_valid.Met as images-thm
 use Rattle.desk.proofs.desk_fits.Symbol as desk-fits-def
 use Rattle.desk.proofs.desk_fits.Symbol.{name as #desk·desk-fits}
 use Rattle.desk.proofs.desk_fits.Met as desk-fits-thm
-use Rattle.desk.proofs.round_number as number
-use Rattle.desk.proofs.round_number.Symbol as number-def
-use Rattle.desk.proofs.round_number.Symbol.{name as #desk·round-number}
-use Rattle.desk.proofs.round_number.Met as number-thm
-use Rattle.desk.proofs.seat_turn.Symbol as turn-def
-use Rattle.desk.proofs.seat_turn.Symbol.{name as #desk·seat-turn}
-use Rattle.desk.proofs.seat_turn.Met as turn-thm
+use Rattle.seats.proofs.round_number as number
+use Rattle.seats.proofs.round_number.Symbol as number-def
+use Rattle.seats.proofs.round_number.Symbol.{name as #seats·round-number}
+use Rattle.seats.proofs.round_number.Met as number-thm
+use Rattle.turns.proofs.seat_turn.Symbol as turn-def
+use Rattle.turns.proofs.seat_turn.Symbol.{name as #turns·seat-turn}
+use Rattle.turns.proofs.seat_turn.Met as turn-thm
 use Rattle.desk.proofs.round.Key.{name as #desk·round}
 use Rattle.desk.proofs.round as round
 use Rattle.desk.proofs.round.Statement as stated
@@ -139,13 +140,13 @@ module _ {M : Type 1} (𝓤 : URA M) (H : Heap 𝓤) (A : Atoms 𝓤) (W : Given
 
   -- what stands after i turns
   abbrev D : ℕ → List Seat
-  D = deskAt (x₀ .now) (x₁ .now) ys
+  D = deskAt (setOf (x₀ .now)) (setOf (x₁ .now)) ys
 
   abbrev B : ℕ → List ℕ
   B i = pouredAt (handedWords (setOf (x₀ .now)) (setOf (x₁ .now))) i ys zs
 
   abbrev N : ℕ → List ℕ
-  N = countsAt (x₀ .now) (x₁ .now) ys
+  N = countsAt (setOf (x₀ .now)) (setOf (x₁ .now)) ys
 
   abbrev c : ℕ
   c = numberOf (x₀ .now) (x₁ .now) ys zs
@@ -199,7 +200,7 @@ module _ {M : Type 1} (𝓤 : URA M) (H : Heap 𝓤) (A : Atoms 𝓤) (W : Given
   abbrev passed : ℕ → Passed
   passed i = record { κ₀ = κ₀; κ₁ = κ₁; κ₃ = κ₃; q₀ = q₀; q₁ = q₁; q₃ = q₃; x₀ = x₀; x₁ = x₁; b = b′; o = o′; m = length zs; γ = γ′; l = B i; v = seatAt (D i) i; i = i; cs = N i }
 
-  module _ (𝓣 : Tables 𝓤 H) (known-images : Triple 𝓤 (𝓣 .C #desk·images-valid) (Images 𝓤 H A mem run)) (known-fits : Triple 𝓤 (𝓣 .C #desk·desk-fits) (DeskFits 𝓤 H A mem run)) (known-number : Triple 𝓤 (𝓣 .C #desk·round-number) (Number 𝓤 H A mem run)) (known-turn : Triple 𝓤 (𝓣 .C #desk·seat-turn) (SeatTurn 𝓤 H A mem run)) where
+  module _ (𝓣 : Tables 𝓤 H) (known-images : Triple 𝓤 (𝓣 .C #desk·images-valid) (Images 𝓤 H A mem run)) (known-fits : Triple 𝓤 (𝓣 .C #desk·desk-fits) (DeskFits 𝓤 H A mem run)) (known-number : Triple 𝓤 (𝓣 .C #seats·round-number) (Number 𝓤 H A mem run)) (known-turn : Triple 𝓤 (𝓣 .C #turns·seat-turn) (SeatTurn 𝓤 H A mem run)) where
     module _ (l₀ l₁ l₂ l₃ l₄ l₅ l₆ l₇ l₈ l₉ l₁₀ l₁₁ l₁₂ l₁₃ l₁₄ l₁₅ l₁₆ l₁₇ l₁₈ l₁₉ l₂₀ : ℕ) where
       abbrev ks : List ℕ
       ks = l₀ ∷ l₁ ∷ l₂ ∷ l₃ ∷ l₄ ∷ l₅ ∷ l₆ ∷ l₇ ∷ l₈ ∷ l₉ ∷ l₁₀ ∷ l₁₁ ∷ l₁₂ ∷ l₁₃ ∷ l₁₄ ∷ l₁₅ ∷ l₁₆ ∷ l₁₇ ∷ l₁₈ ∷ l₁₉ ∷ l₂₀ ∷ []
@@ -239,8 +240,8 @@ module _ {M : Type 1} (𝓤 : URA M) (H : Heap 𝓤) (A : Atoms 𝓤) (W : Given
         unfolding afterTurn
         more t l =
             let i = t .i in let v₀ = seatAt (D (t .i)) (t .i) in let told = tested (x₀ .now) (x₁ .now) ys zs h in
-            let l′ : t .i < length ys = subst (λ (m : ℕ). t .i < m) (sym (told .eight)) l in let l″ : t .i < length (D (t .i)) = subst (λ (m : ℕ). t .i < m) (sym (long (t .i))) l′ in
-            let same : v₀ ≡ seatAt ys i = seat-now (x₀ .now) (x₁ .now) ys i in
+            let l′ : t .i < length ys = subst (λ (m : ℕ). t .i < m) (sym (eight-seats ys (told .fits))) l in let l″ : t .i < length (D (t .i)) = subst (λ (m : ℕ). t .i < m) (sym (long (t .i))) l′ in
+            let same : v₀ ≡ seatAt ys i = seat-now (setOf (x₀ .now)) (setOf (x₁ .now)) ys i in
             assigns ! (bin ! (load ! (from ! (stop !)) (look ! 24 refl)) (lit ! tt) tt) (from ! (stop !)) (init ! 38 refl (tt, tt)) $
             rewrite ! 38 (λ (z : Bool). ‵ (fat fullShare tyBool l₁₄ 0 (vbool z))) (lt-ltb i _ (omega arith)) refl $ stays ! (load ! (from ! (stop !)) (look ! 38 refl)) $
             assigns ! (bin ! (load ! (from ! (stop !)) (look ! 24 refl)) (lit ! tt) (record { fits = bytes _ i room l′ })) (from ! (stop !)) (init ! 40 refl (tt, record { fits = bytes _ i room l′ })) $
@@ -263,7 +264,7 @@ module _ {M : Type 1} (𝓤 : URA M) (H : Heap 𝓤) (A : Atoms 𝓤) (W : Given
             rewrite ! 52 (λ (p : ℕ). ‵ (fat fullShare tyPtr l₂₀ 0 (vptr b p))) (sym (place-is 28 o i)) refl $
             assigns ! (of-opd ! (load ! (from ! (fld ! refl (stop !))) (look-in ! 28 (sub ! 0 refl (whole !))))) (from ! (hop ! (look ! 52 refl) (stop !))) (store-raw ! 6 refl (typed 𝓤 H A W (r .seat) (f .0))) $
             move ! (7 ∷ []) $ drop ! $ seat-owned ! (r .seat) (f .0) $ move ! (7 ∷ 0 ∷ 8 ∷ []) $ elem-put ! R fullShare (D i) i (r .seat) (vals (r .seat)) b o l″ $
-            let to-desk = desk-next (x₀ .now) (x₁ .now) ys i (r .seat) (e .seat-is) in let to-buffer = buffer-next (x₀ .now) (x₁ .now) ys zs i w (e .buffer-is) in let to-counts = counts-next (x₀ .now) (x₁ .now) ys i (r .counts) (e .counts-are) in
+            let to-desk = desk-next (setOf (x₀ .now)) (setOf (x₁ .now)) ys i (r .seat) (e .seat-is) in let to-buffer = buffer-next (setOf (x₀ .now)) (setOf (x₁ .now)) ys zs i w (e .buffer-is) in let to-counts = counts-next (setOf (x₀ .now)) (setOf (x₁ .now)) ys i (r .counts) (e .counts-are) in
             rewrite ! 0 (λ (u : List Seat). ‵ (row R fullShare u b o)) to-desk refl $ rewrite ! 1 (λ (u : List ℕ). ‵ (Buf u)) to-buffer refl $
             move ! (0 ∷ 7 ∷ 8 ∷ 9 ∷ []) $
             -- [the row; the open borrow; obs; auth; the buffer; its token; the outer image; its token; the inner; its token; the locals]
@@ -310,14 +311,14 @@ module _ {M : Type 1} (𝓤 : URA M) (H : Heap 𝓤) (A : Atoms 𝓤) (W : Given
         leaves l₀ l₁ l₂ l₃ l₄ l₅ l₆ l₇ l₈ l₉ l₁₀ l₁₁ l₁₂ l₁₃ l₁₄ l₁₅ l₁₆ l₁₇ l₁₈ l₁₉ l₂₀ first-turn none spare (has (vbool (deskFits ys))) (has (vptr b o)) (has s) (has (vint w64 (length zs))) none (none-made c h)))))))))))))))))))))))))))
 
 module _ {M : Type 1} (𝓤 : URA M) (H : Heap 𝓤) (A : Atoms 𝓤) (W : Given 𝓤 H A) (mem : Memory → SProp 𝓤) (run : Routine → Fun 𝓤) where
-  walks : (𝓣 : Tables 𝓤 H) → Triple 𝓤 (𝓣 .C #desk·images-valid) (Images 𝓤 H A mem run) → Triple 𝓤 (𝓣 .C #desk·desk-fits) (DeskFits 𝓤 H A mem run) → Triple 𝓤 (𝓣 .C #desk·round-number) (Number 𝓤 H A mem run) → Triple 𝓤 (𝓣 .C #desk·seat-turn) (SeatTurn 𝓤 H A mem run) → Walks 𝓤 H A round.ended stayed (WpFn 𝓤 H (𝓣 .C) (𝓣 .Λ) code.function) (round.clauses 𝓤 H A mem run)
+  walks : (𝓣 : Tables 𝓤 H) → Triple 𝓤 (𝓣 .C #desk·images-valid) (Images 𝓤 H A mem run) → Triple 𝓤 (𝓣 .C #desk·desk-fits) (DeskFits 𝓤 H A mem run) → Triple 𝓤 (𝓣 .C #seats·round-number) (Number 𝓤 H A mem run) → Triple 𝓤 (𝓣 .C #turns·seat-turn) (SeatTurn 𝓤 H A mem run) → Walks 𝓤 H A round.ended stayed (WpFn 𝓤 H (𝓣 .C) (𝓣 .Λ) code.function) (round.clauses 𝓤 H A mem run)
   walks 𝓣 known-images known-fits known-number known-turn =
       walked 𝓤 H A round.ended stayed (round.clauses 𝓤 H A mem run) (WpFn 𝓤 H (𝓣 .C) (𝓣 .Λ) code.function)
       (λ κs. (slice-vals, (slice-vals, (slice-vals, (slice-vals, tt)))))
       (λ κs. (shr-slice-tells (named 0) (κs .0) u32, (shr-slice-tells (named 1) (κs .1 .0) u32, (mut-slice-tells (named 2) (κs .1 .1 .0) R, (mut-slice-tells (named 3) (κs .1 .1 .1 .0) u32, tt)))))
       (λ κs qs bounds a g are. via 𝓤 _ (fst∗ 𝓤 _ (emp 𝓤)) (walk 𝓤 H A W mem run (κs .0) (κs .1 .0) (κs .1 .1 .0) (κs .1 .1 .1 .0) (qs .0) (qs .1 .0) (qs .1 .1 .0) (qs .1 .1 .1 .0) (a .0) (a .1 .0) (a .1 .1 .0 .ptr .0) (a .1 .1 .0 .ptr .1) (a .1 .1 .0 .name) (a .1 .1 .1 .0 .ptr .0) (a .1 .1 .1 .0 .ptr .1) (a .1 .1 .1 .0 .name) (a .1 .1 .0 .now) (a .1 .1 .1 .0 .now) (are .0 .0 .1) (are .1 .0 .0 .1) (are .1 .1 .0 .0 .1) (are .1 .1 .1 .0 .0 .1) 𝓣 known-images known-fits known-number known-turn))
 
-meets : {M : Type 1} (𝓤 : URA M) (H : Heap 𝓤) (A : Atoms 𝓤) → Given 𝓤 H A → (mem : Memory → SProp 𝓤) (run : Routine → Fun 𝓤) (𝓣 : Tables 𝓤 H) → Triple 𝓤 (𝓣 .C #desk·images-valid) (Images 𝓤 H A mem run) → Triple 𝓤 (𝓣 .C #desk·desk-fits) (DeskFits 𝓤 H A mem run) → Triple 𝓤 (𝓣 .C #desk·round-number) (Number 𝓤 H A mem run) → Triple 𝓤 (𝓣 .C #desk·seat-turn) (SeatTurn 𝓤 H A mem run)
+meets : {M : Type 1} (𝓤 : URA M) (H : Heap 𝓤) (A : Atoms 𝓤) → Given 𝓤 H A → (mem : Memory → SProp 𝓤) (run : Routine → Fun 𝓤) (𝓣 : Tables 𝓤 H) → Triple 𝓤 (𝓣 .C #desk·images-valid) (Images 𝓤 H A mem run) → Triple 𝓤 (𝓣 .C #desk·desk-fits) (DeskFits 𝓤 H A mem run) → Triple 𝓤 (𝓣 .C #seats·round-number) (Number 𝓤 H A mem run) → Triple 𝓤 (𝓣 .C #turns·seat-turn) (SeatTurn 𝓤 H A mem run)
     → Meets 𝓤 H A round.signature (WpFn 𝓤 H (𝓣 .C) (𝓣 .Λ) code.function) (round.spec 𝓤 H A mem run)
 meets 𝓤 H A W mem run 𝓣 known-images known-fits known-number known-turn =
     walk-meets 𝓤 H A round.ended stayed W
@@ -332,5 +333,5 @@ round-spec 𝓤 H 𝓜 𝓖 𝓡 =
     (meets 𝓤 H (𝓖 .A) (givenOf 𝓤 H 𝓜 𝓖) (𝓜 .mem) (𝓡 .run) (tablesOf 𝓤 H 𝓜 (tables 𝓤 H 𝓜 𝓡 code.env))
     (cited 𝓤 H (Images 𝓤 H (𝓖 .A) (𝓜 .mem) (𝓡 .run)) 𝓜 𝓡 code.env #desk·images-valid images-def.routine code.calls-desk·images-valid (images-thm.met 𝓤 H 𝓜 𝓖 𝓡))
     (cited 𝓤 H (DeskFits 𝓤 H (𝓖 .A) (𝓜 .mem) (𝓡 .run)) 𝓜 𝓡 code.env #desk·desk-fits desk-fits-def.routine code.calls-desk·desk-fits (desk-fits-thm.met 𝓤 H 𝓜 𝓖 𝓡))
-    (cited 𝓤 H (Number 𝓤 H (𝓖 .A) (𝓜 .mem) (𝓡 .run)) 𝓜 𝓡 code.env #desk·round-number number-def.routine code.calls-desk·round-number (number-thm.met 𝓤 H 𝓜 𝓖 𝓡))
-    (cited 𝓤 H (SeatTurn 𝓤 H (𝓖 .A) (𝓜 .mem) (𝓡 .run)) 𝓜 𝓡 code.env #desk·seat-turn turn-def.routine code.calls-desk·seat-turn (turn-thm.met 𝓤 H 𝓜 𝓖 𝓡)))
+    (cited 𝓤 H (Number 𝓤 H (𝓖 .A) (𝓜 .mem) (𝓡 .run)) 𝓜 𝓡 code.env #seats·round-number number-def.routine code.calls-seats·round-number (number-thm.met 𝓤 H 𝓜 𝓖 𝓡))
+    (cited 𝓤 H (SeatTurn 𝓤 H (𝓖 .A) (𝓜 .mem) (𝓡 .run)) 𝓜 𝓡 code.env #turns·seat-turn turn-def.routine code.calls-turns·seat-turn (turn-thm.met 𝓤 H 𝓜 𝓖 𝓡)))

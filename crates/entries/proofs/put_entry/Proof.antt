@@ -5,7 +5,7 @@ use Rattle.entries.proofs.Saving.{put-owner-asks, put-leaf-asks, put-li
 use Rattle.entries.proofs.put_entry.Statement.{statement}
 use Rattle.entries.proofs.put_entry.Tie as tie
 use Rattle.entries.proofs.enter_owner.Reads as enter-owner-reads
-use Rattle.entries.proofs.owner.Reads as owner-reads
+use Rattle.owners.proofs.owner.Reads as owner-reads
 use Rattle.entries.proofs.put_leaf.Reads as put-leaf-reads
 use Rattle.path.proofs.depth.Reads as depth-reads
 

@@ -6,7 +6,7 @@ use Rattle.entries.proofs.take_entry.Statement.{statement}
 use Rattle.entries.proofs.take_entry.Tie as tie
 use Rattle.entries.proofs.entries_before.Reads as entries-before-reads
 use Rattle.entries.proofs.leave_owner.Reads as leave-owner-reads
-use Rattle.entries.proofs.owner.Reads as owner-reads
+use Rattle.owners.proofs.owner.Reads as owner-reads
 use Rattle.entries.proofs.take_leaf.Reads as take-leaf-reads
 use Rattle.pages.proofs.entry_region.Reads as entry-region-reads
 use Rattle.path.proofs.depth.Reads as depth-reads

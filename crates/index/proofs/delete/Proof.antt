@@ -5,11 +5,11 @@ use mathlib.Core.Path.{sym, _∙_}
 use denote.Ref.{now}
 use native.Mathlib.Omega.{arith}
 use Rattle.words.proofs.Tests.{T-of, not-true, not-false}
-use Rattle.index.proofs.Answers.{image-number}
+use Rattle.regions.proofs.Numbers.{image-number}
 use Rattle.index.proofs.Changed.{delete-refused, delete-tested}
 use Rattle.index.proofs.delete.Statement.{statement}
 use Rattle.index.proofs.delete.Tie as tie
-use Rattle.index.proofs.is_valid.Reads as is-valid-reads
+use Rattle.audit.proofs.is_valid.Reads as is-valid-reads
 use Rattle.changes.proofs.delete.Reads as delete-reads
 
 is-valid-requires : tie.Need-is-valid-requires

@@ -11,7 +11,7 @@ use Rattle.index.proofs.open_set.Statement.{statement}
 use Rattle.index.proofs.open_set.Tie as tie
 use Rattle.index.proofs.clear.Reads as clear-reads
 use Rattle.index.proofs.put_shares.Reads as put-shares-reads
-use Rattle.index.proofs.shares_fit.Reads as shares-fit-reads
+use Rattle.regions.proofs.shares_fit.Reads as shares-fit-reads
 
 returns : tie.Need-returns
 returns c = open-image _ _ (c .if1 .taken)

@@ -5,7 +5,7 @@ use mathlib.Core.Path.{sym, _∙_}
 use denote.Ref.{now}
 use native.Mathlib.Omega.{arith}
 use Rattle.words.proofs.Tests.{T-of, not-true, not-false}
-use Rattle.index.proofs.Answers.{image-number}
+use Rattle.regions.proofs.Numbers.{image-number}
 use Rattle.index.proofs.Changed.{save-refused, save-tested}
 use Rattle.index.proofs.save.Statement.{statement}
 use Rattle.index.proofs.save.Tie as tie

@@ -8,7 +8,8 @@ use lib.ListN.{length}
 use Rattle.image.proofs.Sound.{set-rises, valid-sound, at-most-500}
 use Rattle.leaves.specs.Cursors.{left}
 use Rattle.leaves.proofs.Faces.{faces-few}
-use Rattle.join.proofs.Moves.{placed-few, placed-holds, placed-rises}
+use Rattle.follow.proofs.Moves.{placed-few}
+use Rattle.join.proofs.Moves.{placed-holds, placed-rises}
 use Rattle.join.proofs.Turns.{Joining, start-low, join-start, join-end, join-full, join-behind, join-onward, join-small, join-less, join-on}
 use Rattle.join.proofs.pairs_from.Statement.{statement}
 use Rattle.join.proofs.pairs_from.Tie as tie

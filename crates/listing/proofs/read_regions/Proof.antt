@@ -9,13 +9,16 @@ use lib.Dec.{T}
 use lib.ListN.{length}
 use Rattle.image.specs.Read.{setOf}
 use Rattle.image.specs.Valid.{valid}
-use Rattle.listing.specs.Form.{items, section, regionNo, savedLine}
-use Rattle.listing.specs.Steps.{placeAt, Stands, Counted}
-use Rattle.listing.proofs.Sections.{stands-on, section-goes, section-ends, items-go, items-end, items-none, heard-same, regions-refused}
-use Rattle.listing.proofs.Counts.{counts-none, same-long}
+use Rattle.form.specs.Form.{items, section, regionNo, savedLine}
+use Rattle.changes.specs.Counts.{Counted}
+use Rattle.form.specs.Steps.{placeAt, Stands}
+use Rattle.form.proofs.Sections.{stands-on, section-goes, section-ends, items-go, items-end, items-none, heard-same}
+use Rattle.listing.proofs.Sections.{regions-refused}
+use Rattle.changes.proofs.Counts.{counts-none}
+use Rattle.listing.proofs.Copied.{same-long}
 use Rattle.listing.proofs.read_regions.Statement.{statement}
 use Rattle.listing.proofs.read_regions.Tie as tie
-use Rattle.listing.proofs.read_count.Reads as read-count-reads
+use Rattle.form.proofs.read_count.Reads as read-count-reads
 use Rattle.listing.proofs.refused_at.Reads as refused-at-reads
 use Rattle.listing.proofs.take_region.Reads as take-region-reads
 

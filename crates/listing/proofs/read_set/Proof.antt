@@ -7,7 +7,7 @@ use Rattle.listing.proofs.read_set.Statement.{statement}
 use Rattle.listing.proofs.read_set.Tie as tie
 use Rattle.index.proofs.open_set.Reads as open-set-reads
 use Rattle.listing.proofs.read_regions.Reads as read-regions-reads
-use Rattle.listing.proofs.read_shares.Reads as read-shares-reads
+use Rattle.form.proofs.read_shares.Reads as read-shares-reads
 use Rattle.listing.proofs.refused_at.Reads as refused-at-reads
 
 read-shares-requires : tie.Need-read-shares-requires

@@ -7,9 +7,9 @@ use Rattle.listing.proofs.Regions.{takes-form, takes-refused, takes-roo
 use Rattle.listing.proofs.take_region.Statement.{statement}
 use Rattle.listing.proofs.take_region.Tie as tie
 use Rattle.changes.proofs.save.Reads as save-reads
-use Rattle.listing.proofs.counted.Reads as counted-reads
+use Rattle.changes.proofs.counted.Reads as counted-reads
 use Rattle.listing.proofs.not_taken.Reads as not-taken-reads
-use Rattle.listing.proofs.read_region.Reads as read-region-reads
+use Rattle.form.proofs.read_region.Reads as read-region-reads
 use Rattle.regions.proofs.account_of.Reads as account-of-reads
 
 read-region-requires : tie.Need-read-region-requires

@@ -6,11 +6,11 @@ use lib.ListN.{length}
 use native.Mathlib.Omega.{arith}
 use Rattle.merge.proofs.Assemble.{three}
 use Rattle.merge.proofs.InnerMerge.{inners-fit, few-left, sinking-loaded, inners-law}
-use Rattle.merge.proofs.Pairs.{loaded}
+use Rattle.merge.proofs.Pairs.{pair-fill, pair-index, loaded}
 use Rattle.merge.proofs.inners.Statement.{statement}
 use Rattle.merge.proofs.inners.Tie as tie
-use Rattle.merge.proofs.hand_on.Reads as hand-on-reads
-use Rattle.merge.proofs.sink.Reads as sink-reads
+use Rattle.handing.proofs.hand_on.Reads as hand-on-reads
+use Rattle.handing.proofs.sink.Reads as sink-reads
 use Rattle.merge.proofs.store_merged.Reads as store-merged-reads
 use Rattle.newpages.proofs.inner_joined.Reads as inner-joined-reads
 use Rattle.store.proofs.load_page.Reads as load-page-reads
@@ -27,50 +27,38 @@ array-read-q c = search needs
 load-page-requires : tie.Need-load-page-requires
 load-page-requires c κs = let s = c .before .before .pre .1 .pair in let t = three s in (s .stands .long, (t .above-low, t .above-high))
 
-add-left : tie.Need-add-left
-add-left c = let l = loaded (c .before .before .before .pre .1 .pair) (c .load-page .ensures) in omega (arith, l .index)
+child-in-requires : tie.Need-child-in-requires
+child-in-requires c κs = let s = c .before .before .before .pre .1 .pair in omega (arith, pair-fill s, pair-index s)
 
-mul-left : tie.Need-mul-left
-mul-left c = let l = loaded (c .before .before .before .pre .1 .pair) (c .load-page .ensures) in omega (arith, l .index)
+add-child-in : tie.Need-add-child-in
+add-child-in c = let s = c .before .before .before .before .pre .1 .pair in omega (arith, pair-fill s, pair-index s)
 
-array-read-left : tie.Need-array-read-left
-array-read-left c = let l = loaded (c .before .before .before .pre .1 .pair) (c .load-page .ensures) in omega (arith, l .index)
-
-add-right : tie.Need-add-right
-add-right c = let l = loaded (c .before .before .before .pre .1 .pair) (c .load-page .ensures) in omega (arith, l .index)
-
-add-right-2 : tie.Need-add-right-2
-add-right-2 c = let l = loaded (c .before .before .before .pre .1 .pair) (c .load-page .ensures) in omega (arith, l .index)
-
-mul-right : tie.Need-mul-right
-mul-right c = let l = loaded (c .before .before .before .pre .1 .pair) (c .load-page .ensures) in omega (arith, l .index)
-
-array-read-right : tie.Need-array-read-right
-array-read-right c = let l = loaded (c .before .before .before .pre .1 .pair) (c .load-page .ensures) in omega (arith, l .index)
+child-in-requires-2 : tie.Need-child-in-requires-2
+child-in-requires-2 c κs = let s = c .before .before .before .before .pre .1 .pair in omega (arith, pair-fill s, pair-index s)
 
 load-page-requires-2 : tie.Need-load-page-requires-2
-load-page-requires-2 c κs = let l = loaded (c .before .before .before .before .pre .1 .pair) (c .before .load-page .ensures) in (l .long, (l .left-low, l .left-high))
+load-page-requires-2 c κs = let l = loaded (c .before .before .before .before .before .before .pre .1 .pair) (c .before .before .before .load-page .ensures) (c .before .before .child-in .ensures) (c .before .child-in2 .ensures) in (l .long, (l .left-low, l .left-high))
 
 load-page-requires-3 : tie.Need-load-page-requires-3
-load-page-requires-3 c κs = let l = loaded (c .before .before .before .before .before .before .pre .1 .pair) (c .before .before .before .load-page .ensures) in (l .long, (l .right-low, l .right-high))
+load-page-requires-3 c κs = let l = loaded (c .before .before .before .before .before .before .before .before .pre .1 .pair) (c .before .before .before .before .before .load-page .ensures) (c .before .before .before .before .child-in .ensures) (c .before .before .before .child-in2 .ensures) in (l .long, (l .right-low, l .right-high))
 
 hand-on-requires : tie.Need-hand-on-requires
-hand-on-requires c κs = let l = loaded (c .before .before .before .before .before .before .before .before .pre .1 .pair) (c .before .before .before .before .before .load-page .ensures) in (l .long, l .few, l .leaving)
+hand-on-requires c κs = let l = loaded (c .before .before .before .before .before .before .before .before .before .before .pre .1 .pair) (c .before .before .before .before .before .before .before .load-page .ensures) (c .before .before .before .before .before .before .child-in .ensures) (c .before .before .before .before .before .child-in2 .ensures) in (l .long, l .few, l .leaving)
 
 sink-requires : tie.Need-sink-requires
-sink-requires c κs = let l = loaded (c .before .before .before .before .before .before .before .before .before .before .before .before .before .before .pre .1 .pair) (c .before .before .before .before .before .before .before .before .before .before .before .load-page .ensures) in let s = c .before .before .before .before .before .before .before .before .before .before .before .before .before .before .pre .1 .pair in (c .before .before .before .before .before .hand-on .kept .0 ∙ l .long, few-left s (c .before .before .before .before .before .before .before .before .before .before .before .load-page .ensures) (c .before .before .before .before .before .before .before .before .before .load-page2 .ensures), sinking-loaded s (c .before .before .before .before .before .before .before .before .before .before .before .load-page .ensures) (c .before .before .before .before .before .before .before .before .before .load-page2 .ensures) (c .before .before .before .before .before .hand-on .ensures))
+sink-requires c κs = let l = loaded (c .before .before .before .before .before .before .before .before .before .before .before .before .before .before .before .before .pre .1 .pair) (c .before .before .before .before .before .before .before .before .before .before .before .before .before .load-page .ensures) (c .before .before .before .before .before .before .before .before .before .before .before .before .child-in .ensures) (c .before .before .before .before .before .before .before .before .before .before .before .child-in2 .ensures) in let s = c .before .before .before .before .before .before .before .before .before .before .before .before .before .before .before .before .pre .1 .pair in (c .before .before .before .before .before .hand-on .kept .0 ∙ l .long, few-left s (c .before .before .before .before .before .before .before .before .before .before .before .before .before .load-page .ensures) (c .before .before .before .before .before .before .before .before .before .before .before .before .child-in .ensures) (c .before .before .before .before .before .before .before .before .before .load-page2 .ensures), sinking-loaded s (c .before .before .before .before .before .before .before .before .before .before .before .before .before .load-page .ensures) (c .before .before .before .before .before .before .before .before .before .before .before .before .child-in .ensures) (c .before .before .before .before .before .before .before .before .before .load-page2 .ensures) (c .before .before .before .before .before .hand-on .ensures))
 
 inner-joined-requires : tie.Need-inner-joined-requires
-inner-joined-requires c κs = let s = c .before .before .before .before .before .before .before .before .before .before .before .before .before .before .before .before .before .before .before .pre .1 .pair in omega (arith, c .before .before .before .before .sink .ensures (sinking-loaded s (c .before .before .before .before .before .before .before .before .before .before .before .before .before .before .before .before .load-page .ensures) (c .before .before .before .before .before .before .before .before .before .before .before .before .before .before .load-page2 .ensures) (c .before .before .before .before .before .before .before .before .before .before .hand-on .ensures)) .fill-is, inners-fit (c .before .before .before .before .before .before .before .before .before .before .before .before .before .before .before .before .before .before .before .pre .1) (c .before .before .before .before .before .before .before .before .before .before .before .before .before .before .before .before .load-page .ensures) (c .before .before .before .before .before .before .before .before .before .before .before .before .before .before .load-page2 .ensures) (c .before .before .before .before .before .before .before .before .before .before .before .before .load-page3 .ensures))
+inner-joined-requires c κs = let s = c .before .before .before .before .before .before .before .before .before .before .before .before .before .before .before .before .before .before .before .before .before .pre .1 .pair in omega (arith, c .before .before .before .before .sink .ensures (sinking-loaded s (c .before .before .before .before .before .before .before .before .before .before .before .before .before .before .before .before .before .before .load-page .ensures) (c .before .before .before .before .before .before .before .before .before .before .before .before .before .before .before .before .before .child-in .ensures) (c .before .before .before .before .before .before .before .before .before .before .before .before .before .before .load-page2 .ensures) (c .before .before .before .before .before .before .before .before .before .before .hand-on .ensures)) .fill-is, inners-fit (c .before .before .before .before .before .before .before .before .before .before .before .before .before .before .before .before .before .before .before .before .before .pre .1) (c .before .before .before .before .before .before .before .before .before .before .before .before .before .before .before .before .before .before .load-page .ensures) (c .before .before .before .before .before .before .before .before .before .before .before .before .before .before .before .before .before .child-in .ensures) (c .before .before .before .before .before .before .before .before .before .before .before .before .before .before .before .before .child-in2 .ensures) (c .before .before .before .before .before .before .before .before .before .before .before .before .before .before .load-page2 .ensures) (c .before .before .before .before .before .before .before .before .before .before .before .before .load-page3 .ensures))
 
 store-merged-requires : tie.Need-store-merged-requires
-store-merged-requires c κs = let l = loaded (c .before .before .before .before .before .before .before .before .before .before .before .before .before .before .before .before .before .before .before .before .before .pre .1 .pair) (c .before .before .before .before .before .before .before .before .before .before .before .before .before .before .before .before .before .before .load-page .ensures) in (c .before .before .before .before .before .before .sink .kept .0 ∙ c .before .before .before .before .before .before .before .before .before .before .before .before .hand-on .kept .0 ∙ l .long, (l .left-low, l .left-high, l .above-low, l .above-high, l .right-low, l .right-high))
+store-merged-requires c κs = let l = loaded (c .before .before .before .before .before .before .before .before .before .before .before .before .before .before .before .before .before .before .before .before .before .before .before .pre .1 .pair) (c .before .before .before .before .before .before .before .before .before .before .before .before .before .before .before .before .before .before .before .before .load-page .ensures) (c .before .before .before .before .before .before .before .before .before .before .before .before .before .before .before .before .before .before .before .child-in .ensures) (c .before .before .before .before .before .before .before .before .before .before .before .before .before .before .before .before .before .before .child-in2 .ensures) in (c .before .before .before .before .before .before .sink .kept .0 ∙ c .before .before .before .before .before .before .before .before .before .before .before .before .hand-on .kept .0 ∙ l .long, (l .left-low, l .left-high, l .above-low, l .above-high, l .right-low, l .right-high))
 
 same-length : tie.Need-same-length
 same-length c = search needs
 
 returns : tie.Need-returns
-returns c = let l = loaded (c .before .before .before .before .before .before .before .before .before .before .before .before .before .before .before .before .before .before .before .before .before .before .before .before .pre .1 .pair) (c .before .before .before .before .before .before .before .before .before .before .before .before .before .before .before .before .before .before .before .before .before .load-page .ensures) in inners-law _ _ _ _ _ _ _ _ _ _ _ _ (c .before .before .before .before .before .before .before .before .before .before .before .before .before .before .before .before .before .before .before .before .before .before .before .before .pre .1) (c .before .before .before .before .before .before .before .before .before .before .before .before .before .before .before .before .before .before .before .before .before .load-page .ensures) (c .before .before .before .before .before .before .before .before .before .before .before .before .before .before .before .before .before .before .before .load-page2 .ensures) (c .before .before .before .before .before .before .before .before .before .before .before .before .before .before .before .before .before .load-page3 .ensures) (c .before .before .before .before .before .before .before .before .before .before .before .before .before .before .before .hand-on .ensures) (c .before .before .before .before .before .before .before .before .before .sink .ensures) (c .before .before .before .before .inner-joined .ensures) (c .before .before .before .before .before .before .before .before .before .sink .kept .0 ∙ c .before .before .before .before .before .before .before .before .before .before .before .before .before .before .before .hand-on .kept .0 ∙ l .long) (long (c .before .before .before .before)) (c .before .before .store-merged .ensures)
+returns c = let l = loaded (c .before .before .before .before .before .before .before .before .before .before .before .before .before .before .before .before .before .before .before .before .before .before .before .before .before .before .pre .1 .pair) (c .before .before .before .before .before .before .before .before .before .before .before .before .before .before .before .before .before .before .before .before .before .before .before .load-page .ensures) (c .before .before .before .before .before .before .before .before .before .before .before .before .before .before .before .before .before .before .before .before .before .before .child-in .ensures) (c .before .before .before .before .before .before .before .before .before .before .before .before .before .before .before .before .before .before .before .before .before .child-in2 .ensures) in inners-law _ _ _ _ _ _ _ _ _ _ _ _ _ _ (c .before .before .before .before .before .before .before .before .before .before .before .before .before .before .before .before .before .before .before .before .before .before .before .before .before .before .pre .1) (c .before .before .before .before .before .before .before .before .before .before .before .before .before .before .before .before .before .before .before .before .before .before .before .load-page .ensures) (c .before .before .before .before .before .before .before .before .before .before .before .before .before .before .before .before .before .before .before .before .before .before .child-in .ensures) (c .before .before .before .before .before .before .before .before .before .before .before .before .before .before .before .before .before .before .before .before .before .child-in2 .ensures) (c .before .before .before .before .before .before .before .before .before .before .before .before .before .before .before .before .before .before .before .load-page2 .ensures) (c .before .before .before .before .before .before .before .before .before .before .before .before .before .before .before .before .before .load-page3 .ensures) (c .before .before .before .before .before .before .before .before .before .before .before .before .before .before .before .hand-on .ensures) (c .before .before .before .before .before .before .before .before .before .sink .ensures) (c .before .before .before .before .inner-joined .ensures) (c .before .before .before .before .before .before .before .before .before .sink .kept .0 ∙ c .before .before .before .before .before .before .before .before .before .before .before .before .before .before .before .hand-on .kept .0 ∙ l .long) (long (c .before .before .before .before)) (c .before .before .store-merged .ensures)
 
 pub inners-spec : {M : Type 1} → statement M
 inners-spec =
@@ -79,13 +67,9 @@ inners-spec =
     mul-q
     array-read-q
     load-page-requires
-    add-left
-    mul-left
-    array-read-left
-    add-right
-    add-right-2
-    mul-right
-    array-read-right
+    child-in-requires
+    add-child-in
+    child-in-requires-2
     load-page-requires-2
     load-page-requires-3
     hand-on-requires

@@ -6,11 +6,11 @@ use lib.ListN.{length}
 use native.Mathlib.Omega.{arith}
 use Rattle.merge.proofs.Assemble.{three}
 use Rattle.merge.proofs.LeafMerge.{leaves-fit, leaves-law}
-use Rattle.merge.proofs.Pairs.{loaded, rest-ends}
+use Rattle.merge.proofs.Pairs.{pair-fill, pair-index, loaded, rest-ends}
 use Rattle.merge.proofs.leaves.Statement.{statement}
 use Rattle.merge.proofs.leaves.Tie as tie
-use Rattle.merge.proofs.clear_flags.Reads as clear-flags-reads
-use Rattle.merge.proofs.hand_on.Reads as hand-on-reads
+use Rattle.handing.proofs.clear_flags.Reads as clear-flags-reads
+use Rattle.handing.proofs.hand_on.Reads as hand-on-reads
 use Rattle.merge.proofs.store_merged.Reads as store-merged-reads
 use Rattle.newpages.proofs.leaf_joined.Reads as leaf-joined-reads
 use Rattle.records.proofs.drop_list.Reads as drop-list-reads
@@ -28,53 +28,41 @@ array-read-q c = search needs
 load-page-requires : tie.Need-load-page-requires
 load-page-requires c κs = let s = c .before .before .pre .1 .pair in let t = three s in (s .stands .long, (t .above-low, t .above-high))
 
-add-left : tie.Need-add-left
-add-left c = let l = loaded (c .before .before .before .pre .1 .pair) (c .load-page .ensures) in omega (arith, l .index)
+child-in-requires : tie.Need-child-in-requires
+child-in-requires c κs = let s = c .before .before .before .pre .1 .pair in omega (arith, pair-fill s, pair-index s)
 
-mul-left : tie.Need-mul-left
-mul-left c = let l = loaded (c .before .before .before .pre .1 .pair) (c .load-page .ensures) in omega (arith, l .index)
+add-child-in : tie.Need-add-child-in
+add-child-in c = let s = c .before .before .before .before .pre .1 .pair in omega (arith, pair-fill s, pair-index s)
 
-array-read-left : tie.Need-array-read-left
-array-read-left c = let l = loaded (c .before .before .before .pre .1 .pair) (c .load-page .ensures) in omega (arith, l .index)
-
-add-right : tie.Need-add-right
-add-right c = let l = loaded (c .before .before .before .pre .1 .pair) (c .load-page .ensures) in omega (arith, l .index)
-
-add-right-2 : tie.Need-add-right-2
-add-right-2 c = let l = loaded (c .before .before .before .pre .1 .pair) (c .load-page .ensures) in omega (arith, l .index)
-
-mul-right : tie.Need-mul-right
-mul-right c = let l = loaded (c .before .before .before .pre .1 .pair) (c .load-page .ensures) in omega (arith, l .index)
-
-array-read-right : tie.Need-array-read-right
-array-read-right c = let l = loaded (c .before .before .before .pre .1 .pair) (c .load-page .ensures) in omega (arith, l .index)
+child-in-requires-2 : tie.Need-child-in-requires-2
+child-in-requires-2 c κs = let s = c .before .before .before .before .pre .1 .pair in omega (arith, pair-fill s, pair-index s)
 
 load-page-requires-2 : tie.Need-load-page-requires-2
-load-page-requires-2 c κs = let l = loaded (c .before .before .before .before .pre .1 .pair) (c .before .load-page .ensures) in (l .long, (l .left-low, l .left-high))
+load-page-requires-2 c κs = let l = loaded (c .before .before .before .before .before .before .pre .1 .pair) (c .before .before .before .load-page .ensures) (c .before .before .child-in .ensures) (c .before .child-in2 .ensures) in (l .long, (l .left-low, l .left-high))
 
 load-page-requires-3 : tie.Need-load-page-requires-3
-load-page-requires-3 c κs = let l = loaded (c .before .before .before .before .before .before .pre .1 .pair) (c .before .before .before .load-page .ensures) in (l .long, (l .right-low, l .right-high))
+load-page-requires-3 c κs = let l = loaded (c .before .before .before .before .before .before .before .before .pre .1 .pair) (c .before .before .before .before .before .load-page .ensures) (c .before .before .before .before .child-in .ensures) (c .before .before .before .child-in2 .ensures) in (l .long, (l .right-low, l .right-high))
 
 leaf-joined-requires : tie.Need-leaf-joined-requires
-leaf-joined-requires c κs = leaves-fit (c .before .before .before .before .before .before .before .pre .1) (c .before .before .before .before .load-page .ensures) (c .before .before .load-page2 .ensures) (c .load-page3 .ensures)
+leaf-joined-requires c κs = leaves-fit (c .before .before .before .before .before .before .before .before .before .pre .1) (c .before .before .before .before .before .before .load-page .ensures) (c .before .before .before .before .before .child-in .ensures) (c .before .before .before .before .child-in2 .ensures) (c .before .before .load-page2 .ensures) (c .load-page3 .ensures)
 
 hand-on-requires : tie.Need-hand-on-requires
-hand-on-requires c κs = let l = loaded (c .before .before .before .before .before .before .before .before .before .pre .1 .pair) (c .before .before .before .before .before .before .load-page .ensures) in (l .long, l .few, l .leaving)
+hand-on-requires c κs = let l = loaded (c .before .before .before .before .before .before .before .before .before .before .before .pre .1 .pair) (c .before .before .before .before .before .before .before .before .load-page .ensures) (c .before .before .before .before .before .before .before .child-in .ensures) (c .before .before .before .before .before .before .child-in2 .ensures) in (l .long, l .few, l .leaving)
 
 clear-flags-requires : tie.Need-clear-flags-requires
-clear-flags-requires c κs = let l = loaded (c .before .before .before .before .before .before .before .before .before .before .before .before .before .before .before .pre .1 .pair) (c .before .before .before .before .before .before .before .before .before .before .before .before .load-page .ensures) in (omega (arith, c .before .before .before .before .before .before .before .leaf-joined .ensures .fill-is, leaves-fit (c .before .before .before .before .before .before .before .before .before .before .before .before .before .before .before .pre .1) (c .before .before .before .before .before .before .before .before .before .before .before .before .load-page .ensures) (c .before .before .before .before .before .before .before .before .before .before .load-page2 .ensures) (c .before .before .before .before .before .before .before .before .load-page3 .ensures)), rest-ends (c .before .before .before .before .before .hand-on .ensures (l .leaving)))
+clear-flags-requires c κs = let l = loaded (c .before .before .before .before .before .before .before .before .before .before .before .before .before .before .before .before .before .pre .1 .pair) (c .before .before .before .before .before .before .before .before .before .before .before .before .before .before .load-page .ensures) (c .before .before .before .before .before .before .before .before .before .before .before .before .before .child-in .ensures) (c .before .before .before .before .before .before .before .before .before .before .before .before .child-in2 .ensures) in (omega (arith, c .before .before .before .before .before .before .before .leaf-joined .ensures .fill-is, leaves-fit (c .before .before .before .before .before .before .before .before .before .before .before .before .before .before .before .before .before .pre .1) (c .before .before .before .before .before .before .before .before .before .before .before .before .before .before .load-page .ensures) (c .before .before .before .before .before .before .before .before .before .before .before .before .before .child-in .ensures) (c .before .before .before .before .before .before .before .before .before .before .before .before .child-in2 .ensures) (c .before .before .before .before .before .before .before .before .before .before .load-page2 .ensures) (c .before .before .before .before .before .before .before .before .load-page3 .ensures)), rest-ends (c .before .before .before .before .before .hand-on .ensures (l .leaving)))
 
 drop-list-requires : tie.Need-drop-list-requires
-drop-list-requires c κs = let l = loaded (c .before .before .before .before .before .before .before .before .before .before .before .before .before .before .before .before .before .pre .1 .pair) (c .before .before .before .before .before .before .before .before .before .before .before .before .before .before .load-page .ensures) in (c .before .before .before .before .before .before .before .hand-on .kept .0 ∙ l .long, rest-ends (c .before .before .before .before .before .before .before .hand-on .ensures (l .leaving)))
+drop-list-requires c κs = let l = loaded (c .before .before .before .before .before .before .before .before .before .before .before .before .before .before .before .before .before .before .before .pre .1 .pair) (c .before .before .before .before .before .before .before .before .before .before .before .before .before .before .before .before .load-page .ensures) (c .before .before .before .before .before .before .before .before .before .before .before .before .before .before .before .child-in .ensures) (c .before .before .before .before .before .before .before .before .before .before .before .before .before .before .child-in2 .ensures) in (c .before .before .before .before .before .before .before .hand-on .kept .0 ∙ l .long, rest-ends (c .before .before .before .before .before .before .before .hand-on .ensures (l .leaving)))
 
 store-merged-requires : tie.Need-store-merged-requires
-store-merged-requires c κs = let l = loaded (c .before .before .before .before .before .before .before .before .before .before .before .before .before .before .before .before .before .before .before .before .before .pre .1 .pair) (c .before .before .before .before .before .before .before .before .before .before .before .before .before .before .before .before .before .before .load-page .ensures) in (c .before .before .before .drop-list .kept .0 ∙ c .before .before .before .before .before .before .before .before .before .before .before .hand-on .kept .0 ∙ l .long, (l .left-low, l .left-high, l .above-low, l .above-high, l .right-low, l .right-high))
+store-merged-requires c κs = let l = loaded (c .before .before .before .before .before .before .before .before .before .before .before .before .before .before .before .before .before .before .before .before .before .before .before .pre .1 .pair) (c .before .before .before .before .before .before .before .before .before .before .before .before .before .before .before .before .before .before .before .before .load-page .ensures) (c .before .before .before .before .before .before .before .before .before .before .before .before .before .before .before .before .before .before .before .child-in .ensures) (c .before .before .before .before .before .before .before .before .before .before .before .before .before .before .before .before .before .before .child-in2 .ensures) in (c .before .before .before .drop-list .kept .0 ∙ c .before .before .before .before .before .before .before .before .before .before .before .hand-on .kept .0 ∙ l .long, (l .left-low, l .left-high, l .above-low, l .above-high, l .right-low, l .right-high))
 
 same-length : tie.Need-same-length
 same-length c = search needs
 
 returns : tie.Need-returns
-returns c = let l = loaded (c .before .before .before .before .before .before .before .before .before .before .before .before .before .before .before .before .before .before .before .before .before .before .before .before .pre .1 .pair) (c .before .before .before .before .before .before .before .before .before .before .before .before .before .before .before .before .before .before .before .before .before .load-page .ensures) in leaves-law _ _ _ _ _ _ _ _ _ _ _ _ (c .before .before .before .before .before .before .before .before .before .before .before .before .before .before .before .before .before .before .before .before .before .before .before .before .pre .1) (c .before .before .before .before .before .before .before .before .before .before .before .before .before .before .before .before .before .before .before .before .before .load-page .ensures) (c .before .before .before .before .before .before .before .before .before .before .before .before .before .before .before .before .before .before .before .load-page2 .ensures) (c .before .before .before .before .before .before .before .before .before .before .before .before .before .before .before .before .before .load-page3 .ensures) (c .before .before .before .before .before .before .before .before .before .before .before .before .before .before .before .before .leaf-joined .ensures) (c .before .before .before .before .before .before .before .before .before .before .before .before .before .before .hand-on .ensures) (c .before .before .before .before .before .before .before .before .clear-flags .ensures) (c .before .before .before .before .before .before .drop-list .ensures) (c .before .before .before .before .before .before .drop-list .kept .0 ∙ c .before .before .before .before .before .before .before .before .before .before .before .before .before .before .hand-on .kept .0 ∙ l .long) (long (c .before .before .before .before .before .before .before .before)) (c .before .before .store-merged .ensures)
+returns c = let l = loaded (c .before .before .before .before .before .before .before .before .before .before .before .before .before .before .before .before .before .before .before .before .before .before .before .before .before .before .pre .1 .pair) (c .before .before .before .before .before .before .before .before .before .before .before .before .before .before .before .before .before .before .before .before .before .before .before .load-page .ensures) (c .before .before .before .before .before .before .before .before .before .before .before .before .before .before .before .before .before .before .before .before .before .before .child-in .ensures) (c .before .before .before .before .before .before .before .before .before .before .before .before .before .before .before .before .before .before .before .before .before .child-in2 .ensures) in leaves-law _ _ _ _ _ _ _ _ _ _ _ _ _ _ (c .before .before .before .before .before .before .before .before .before .before .before .before .before .before .before .before .before .before .before .before .before .before .before .before .before .before .pre .1) (c .before .before .before .before .before .before .before .before .before .before .before .before .before .before .before .before .before .before .before .before .before .before .before .load-page .ensures) (c .before .before .before .before .before .before .before .before .before .before .before .before .before .before .before .before .before .before .before .before .before .before .child-in .ensures) (c .before .before .before .before .before .before .before .before .before .before .before .before .before .before .before .before .before .before .before .before .before .child-in2 .ensures) (c .before .before .before .before .before .before .before .before .before .before .before .before .before .before .before .before .before .before .before .load-page2 .ensures) (c .before .before .before .before .before .before .before .before .before .before .before .before .before .before .before .before .before .load-page3 .ensures) (c .before .before .before .before .before .before .before .before .before .before .before .before .before .before .before .before .leaf-joined .ensures) (c .before .before .before .before .before .before .before .before .before .before .before .before .before .before .hand-on .ensures) (c .before .before .before .before .before .before .before .before .clear-flags .ensures) (c .before .before .before .before .before .before .drop-list .ensures) (c .before .before .before .before .before .before .drop-list .kept .0 ∙ c .before .before .before .before .before .before .before .before .before .before .before .before .before .before .hand-on .kept .0 ∙ l .long) (long (c .before .before .before .before .before .before .before .before)) (c .before .before .store-merged .ensures)
 
 pub leaves-spec : {M : Type 1} → statement M
 leaves-spec =
@@ -83,13 +71,9 @@ leaves-spec =
     mul-q
     array-read-q
     load-page-requires
-    add-left
-    mul-left
-    array-read-left
-    add-right
-    add-right-2
-    mul-right
-    array-read-right
+    child-in-requires
+    add-child-in
+    child-in-requires-2
     load-page-requires-2
     load-page-requires-3
     leaf-joined-requires

@@ -20,11 +20,8 @@ array-read-wide-2 c = search needs
 wide-requires-2 : tie.Need-wide-requires-2
 wide-requires-2 c κs = search needs
 
-mul-a : tie.Need-mul-a
-mul-a c = search needs
-
-add-a : tie.Need-add-a
-add-a c = search needs
+key-word-requires : tie.Need-key-word-requires
+key-word-requires c κs = search needs
 
 put-key-requires : tie.Need-put-key-requires
 put-key-requires c κs = search needs
@@ -38,11 +35,14 @@ mul-copied c = search needs
 copied-requires : tie.Need-copied-requires
 copied-requires c κs = search needs
 
+add-child-word : tie.Need-add-child-word
+add-child-word c = search needs
+
+child-word-requires : tie.Need-child-word-requires
+child-word-requires c κs = search needs
+
 add-copied-2 : tie.Need-add-copied-2
 add-copied-2 c = search needs
-
-add-copied-3 : tie.Need-add-copied-3
-add-copied-3 c = search needs
 
 copied-requires-2 : tie.Need-copied-requires-2
 copied-requires-2 c κs = search needs
@@ -70,10 +70,10 @@ headed-requires c κs = search needs
 
 returns : tie.Need-returns
 returns c =
-    let s = c .before .before .before .before .before .before in
-    let w = c .before .before .before .before .before .wide in
-    let v = c .before .before .before .before .wide2 in
-    rw (c .headed .ensures, c .before .copied2 .ensures, c .before .before .copied .ensures, c .before .before .before .put-key .ensures)
+    let s = c .before .before .before .before .before .before .before .before in
+    let w = c .before .before .before .before .before .before .before .wide in
+    let v = c .before .before .before .before .before .before .wide2 in
+    rw (c .headed .ensures, c .before .copied2 .ensures, c .before .before .before .copied .ensures, c .before .before .before .before .put-key .ensures, c .before .before .child-word .ensures, c .before .before .before .before .before .key-word .ensures)
     (inner-joined-is (s .args .t1) (s .args .t3) (search needs) (search needs) (w .result) (v .result) (fillOf (s .args .t1) + fillOf (s .args .t3) + 1) (s .args .k) (w .ensures) (v .ensures)
     (s .pre) (omega arith))
 
@@ -85,14 +85,14 @@ inner-joined-spec =
     wide-requires
     array-read-wide-2
     wide-requires-2
-    mul-a
-    add-a
+    key-word-requires
     put-key-requires
     add-copied
     mul-copied
     copied-requires
+    add-child-word
+    child-word-requires
     add-copied-2
-    add-copied-3
     copied-requires-2
     array-read-headed
     array-read-headed-2

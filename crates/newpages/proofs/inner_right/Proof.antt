@@ -19,26 +19,26 @@ add-m c = search needs
 sub-m : tie.Need-sub-m
 sub-m c = search needs
 
-add-copied : tie.Need-add-copied
-add-copied c = search needs
+add-key-word : tie.Need-add-key-word
+add-key-word c = search needs
+
+key-word-requires : tie.Need-key-word-requires
+key-word-requires c κs = search needs
 
 mul-copied : tie.Need-mul-copied
 mul-copied c = search needs
 
-add-copied-2 : tie.Need-add-copied-2
-add-copied-2 c = search needs
-
-mul-copied-2 : tie.Need-mul-copied-2
-mul-copied-2 c = search needs
-
 copied-requires : tie.Need-copied-requires
 copied-requires c κs = search needs
 
-add-copied-3 : tie.Need-add-copied-3
-add-copied-3 c = search needs
+add-child-word : tie.Need-add-child-word
+add-child-word c = search needs
 
-add-copied-4 : tie.Need-add-copied-4
-add-copied-4 c = search needs
+child-word-requires : tie.Need-child-word-requires
+child-word-requires c κs = search needs
+
+add-copied : tie.Need-add-copied
+add-copied c = search needs
 
 copied-requires-2 : tie.Need-copied-requires-2
 copied-requires-2 c κs = search needs
@@ -54,9 +54,9 @@ headed-requires c κs = search needs
 
 returns : tie.Need-returns
 returns c =
-    let s = c .before .before .before .before in
-    let w = c .before .before .before .wide in
-    rw (c .headed .ensures, c .before .copied2 .ensures, c .before .before .copied .ensures)
+    let s = c .before .before .before .before .before .before in
+    let w = c .before .before .before .before .before .wide in
+    rw (c .headed .ensures, c .before .copied2 .ensures, c .before .before .before .copied .ensures, c .before .before .child-word .ensures, c .before .before .before .before .key-word .ensures)
     (inner-right-is (s .args .t1) (search needs) (s .args .c) (w .result - (s .args .c + 1)) (omega (arith, w .ensures)) (s .pre .0) (s .pre .1))
 
 pub inner-right-spec : {M : Type 1} → statement M
@@ -67,13 +67,13 @@ inner-right-spec =
     wide-requires
     add-m
     sub-m
-    add-copied
+    add-key-word
+    key-word-requires
     mul-copied
-    add-copied-2
-    mul-copied-2
     copied-requires
-    add-copied-3
-    add-copied-4
+    add-child-word
+    child-word-requires
+    add-copied
     copied-requires-2
     cast-headed
     array-read-headed

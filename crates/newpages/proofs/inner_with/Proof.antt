@@ -14,11 +14,8 @@ array-read-wide c = search needs
 wide-requires : tie.Need-wide-requires
 wide-requires c κs = search needs
 
-mul-a : tie.Need-mul-a
-mul-a c = search needs
-
-add-a : tie.Need-add-a
-add-a c = search needs
+key-word-requires : tie.Need-key-word-requires
+key-word-requires c κs = search needs
 
 put-key-requires : tie.Need-put-key-requires
 put-key-requires c κs = search needs
@@ -35,8 +32,11 @@ mul-copied c = search needs
 copied-requires : tie.Need-copied-requires
 copied-requires c κs = search needs
 
-add-keyed : tie.Need-add-keyed
-add-keyed c = search needs
+add-child-word : tie.Need-add-child-word
+add-child-word c = search needs
+
+child-word-requires : tie.Need-child-word-requires
+child-word-requires c κs = search needs
 
 mul-keyed : tie.Need-mul-keyed
 mul-keyed c = search needs
@@ -46,9 +46,6 @@ array-write-keyed c = search needs
 
 add-copied-2 : tie.Need-add-copied-2
 add-copied-2 c = search needs
-
-add-copied-3 : tie.Need-add-copied-3
-add-copied-3 c = search needs
 
 sub-copied-2 : tie.Need-sub-copied-2
 sub-copied-2 c = search needs
@@ -73,9 +70,9 @@ headed-requires c κs = search needs
 
 returns : tie.Need-returns
 returns c =
-    let s = c .before .before .before .before .before in
-    let w = c .before .before .before .before .wide in
-    rw (c .headed .ensures, c .before .copied2 .ensures, c .before .before .copied .ensures, c .before .before .before .put-key .ensures)
+    let s = c .before .before .before .before .before .before .before in
+    let w = c .before .before .before .before .before .before .wide in
+    rw (c .headed .ensures, c .before .copied2 .ensures, c .before .before .before .copied .ensures, c .before .before .before .before .put-key .ensures, c .before .before .child-word .ensures, c .before .before .before .before .before .key-word .ensures)
     (inner-with-is (s .args .t1) (search needs) (s .args .i) (w .result) (fillOf (s .args .t1) + 1) (s .args .k) (s .args .child) (w .ensures) (s .pre .0) (s .pre .1) (omega arith))
 
 pub inner-with-spec : {M : Type 1} → statement M
@@ -84,18 +81,17 @@ inner-with-spec =
     (tie.spec
     array-read-wide
     wide-requires
-    mul-a
-    add-a
+    key-word-requires
     put-key-requires
     add-copied
     sub-copied
     mul-copied
     copied-requires
-    add-keyed
+    add-child-word
+    child-word-requires
     mul-keyed
     array-write-keyed
     add-copied-2
-    add-copied-3
     sub-copied-2
     copied-requires-2
     array-read-headed

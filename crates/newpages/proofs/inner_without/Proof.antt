@@ -20,11 +20,8 @@ add-m c = search needs
 sub-m : tie.Need-sub-m
 sub-m c = search needs
 
-mul-a : tie.Need-mul-a
-mul-a c = search needs
-
-add-a : tie.Need-add-a
-add-a c = search needs
+key-word-requires : tie.Need-key-word-requires
+key-word-requires c κs = search needs
 
 add-copied : tie.Need-add-copied
 add-copied c = search needs
@@ -35,11 +32,14 @@ mul-copied c = search needs
 copied-requires : tie.Need-copied-requires
 copied-requires c κs = search needs
 
+add-child-word : tie.Need-add-child-word
+add-child-word c = search needs
+
+child-word-requires : tie.Need-child-word-requires
+child-word-requires c κs = search needs
+
 add-copied-2 : tie.Need-add-copied-2
 add-copied-2 c = search needs
-
-add-copied-3 : tie.Need-add-copied-3
-add-copied-3 c = search needs
 
 copied-requires-2 : tie.Need-copied-requires-2
 copied-requires-2 c κs = search needs
@@ -61,9 +61,9 @@ headed-requires c κs = search needs
 
 returns : tie.Need-returns
 returns c =
-    let s = c .before .before .before .before in
-    let w = c .before .before .before .wide in
-    rw (c .headed .ensures, c .before .copied2 .ensures, c .before .before .copied .ensures)
+    let s = c .before .before .before .before .before .before in
+    let w = c .before .before .before .before .before .wide in
+    rw (c .headed .ensures, c .before .copied2 .ensures, c .before .before .before .copied .ensures, c .before .before .child-word .ensures, c .before .before .before .before .key-word .ensures)
     (inner-without-is (s .args .t1) (search needs) (s .args .i) (w .result - (s .args .i + 1)) (fillOf (s .args .t1) - 1) (omega (arith, w .ensures)) (s .pre .0) (s .pre .1) (omega arith))
 
 pub inner-without-spec : {M : Type 1} → statement M
@@ -74,13 +74,13 @@ inner-without-spec =
     wide-requires
     add-m
     sub-m
-    mul-a
-    add-a
+    key-word-requires
     add-copied
     mul-copied
     copied-requires
+    add-child-word
+    child-word-requires
     add-copied-2
-    add-copied-3
     copied-requires-2
     array-read-headed
     array-read-headed-2

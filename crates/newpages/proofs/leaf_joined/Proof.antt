@@ -11,6 +11,9 @@ array-read-wide c = search needs
 wide-requires : tie.Need-wide-requires
 wide-requires c κs = search needs
 
+entry-word-requires : tie.Need-entry-word-requires
+entry-word-requires c κs = search needs
+
 array-read-wide-2 : tie.Need-array-read-wide-2
 array-read-wide-2 c = search needs
 
@@ -19,12 +22,6 @@ wide-requires-2 c κs = search needs
 
 mul-copied : tie.Need-mul-copied
 mul-copied c = search needs
-
-add-copied : tie.Need-add-copied
-add-copied c = search needs
-
-mul-copied-2 : tie.Need-mul-copied-2
-mul-copied-2 c = search needs
 
 copied-requires : tie.Need-copied-requires
 copied-requires c κs = search needs
@@ -49,10 +46,11 @@ headed-requires c κs = search needs
 
 returns : tie.Need-returns
 returns c =
-    let s = c .before .before .before .before in
-    rw (c .headed .ensures, c .before .copied .ensures)
-    (leaf-joined-is (s .args .t1) (s .args .t2) (search needs) (search needs) (c .before .before .wide2 .result) (c .before .before .before .wide .result) (c .before .before .wide2 .ensures)
-    (c .before .before .before .wide .ensures) (s .pre))
+    let s = c .before .before .before .before .before in
+    let w = c .before .before .before .before .wide in
+    let v = c .before .before .wide2 in
+    rw (c .headed .ensures, c .before .copied .ensures, c .before .before .before .entry-word .ensures)
+    (leaf-joined-is (s .args .t1) (s .args .t2) (search needs) (search needs) (w .result) (v .result) (w .ensures) (v .ensures) (s .pre))
 
 pub leaf-joined-spec : {M : Type 1} → statement M
 leaf-joined-spec =
@@ -60,11 +58,10 @@ leaf-joined-spec =
     (tie.spec
     array-read-wide
     wide-requires
+    entry-word-requires
     array-read-wide-2
     wide-requires-2
     mul-copied
-    add-copied
-    mul-copied-2
     copied-requires
     array-read-headed
     array-read-headed-2

@@ -16,14 +16,11 @@ wide-requires c κs = search needs
 sub-m : tie.Need-sub-m
 sub-m c = search needs
 
+entry-word-requires : tie.Need-entry-word-requires
+entry-word-requires c κs = search needs
+
 mul-copied : tie.Need-mul-copied
 mul-copied c = search needs
-
-add-copied : tie.Need-add-copied
-add-copied c = search needs
-
-mul-copied-2 : tie.Need-mul-copied-2
-mul-copied-2 c = search needs
 
 copied-requires : tie.Need-copied-requires
 copied-requires c κs = search needs
@@ -39,9 +36,10 @@ headed-requires c κs = search needs
 
 returns : tie.Need-returns
 returns c =
-    let s = c .before .before .before in
-    rw (c .headed .ensures, c .before .copied .ensures)
-    (leaf-right-is (s .args .t1) (search needs) (s .args .c) (c .before .before .wide .result - s .args .c) (omega (arith, c .before .before .wide .ensures)) (s .pre .0) (s .pre .1))
+    let s = c .before .before .before .before in
+    let w = c .before .before .before .wide in
+    rw (c .headed .ensures, c .before .copied .ensures, c .before .before .entry-word .ensures)
+    (leaf-right-is (s .args .t1) (search needs) (s .args .c) (w .result - s .args .c) (omega (arith, w .ensures)) (s .pre .0) (s .pre .1))
 
 pub leaf-right-spec : {M : Type 1} → statement M
 leaf-right-spec =
@@ -50,9 +48,8 @@ leaf-right-spec =
     array-read-wide
     wide-requires
     sub-m
+    entry-word-requires
     mul-copied
-    add-copied
-    mul-copied-2
     copied-requires
     cast-headed
     array-read-headed

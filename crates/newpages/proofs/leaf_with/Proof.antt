@@ -14,20 +14,17 @@ array-read-wide c = search needs
 wide-requires : tie.Need-wide-requires
 wide-requires c κs = search needs
 
-mul-a : tie.Need-mul-a
-mul-a c = search needs
+sub-m : tie.Need-sub-m
+sub-m c = search needs
 
-add-a : tie.Need-add-a
-add-a c = search needs
+entry-word-requires : tie.Need-entry-word-requires
+entry-word-requires c κs = search needs
 
 put-entry-requires : tie.Need-put-entry-requires
 put-entry-requires c κs = search needs
 
 add-copied : tie.Need-add-copied
 add-copied c = search needs
-
-sub-copied : tie.Need-sub-copied
-sub-copied c = search needs
 
 mul-copied : tie.Need-mul-copied
 mul-copied c = search needs
@@ -52,10 +49,10 @@ headed-requires c κs = search needs
 
 returns : tie.Need-returns
 returns c =
-    let s = c .before .before .before .before in
-    rw (c .headed .ensures, c .before .copied .ensures, c .before .before .put-entry .ensures)
-    (leaf-with-is (s .args .t1) (search needs) (s .args .i) (c .before .before .before .wide .result) (fillOf (s .args .t1) + 1) (s .args .r) (s .args .flag)
-    (c .before .before .before .wide .ensures) (s .pre .0) (s .pre .1) (omega arith))
+    let s = c .before .before .before .before .before in
+    let w = c .before .before .before .before .wide in
+    rw (c .headed .ensures, c .before .copied .ensures, c .before .before .put-entry .ensures, c .before .before .before .entry-word .ensures)
+    (leaf-with-is (s .args .t1) (search needs) (s .args .i) (w .result) (fillOf (s .args .t1) + 1) (s .args .r) (s .args .flag) (w .ensures) (s .pre .0) (s .pre .1) (omega arith))
 
 pub leaf-with-spec : {M : Type 1} → statement M
 leaf-with-spec =
@@ -63,11 +60,10 @@ leaf-with-spec =
     (tie.spec
     array-read-wide
     wide-requires
-    mul-a
-    add-a
+    sub-m
+    entry-word-requires
     put-entry-requires
     add-copied
-    sub-copied
     mul-copied
     copied-requires
     array-read-headed

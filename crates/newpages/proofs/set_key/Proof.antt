@@ -5,19 +5,16 @@ use Rattle.newpages.proofs.Inners.{set-key-is}
 use Rattle.newpages.proofs.set_key.Statement.{statement}
 use Rattle.newpages.proofs.set_key.Tie as tie
 
-mul-put-key : tie.Need-mul-put-key
-mul-put-key c = search needs
-
-add-put-key : tie.Need-add-put-key
-add-put-key c = search needs
+key-word-requires : tie.Need-key-word-requires
+key-word-requires c κs = search needs
 
 put-key-requires : tie.Need-put-key-requires
 put-key-requires c κs = search needs
 
 returns : tie.Need-returns
 returns c =
-    let s = c .before in
-    rw (c .put-key .ensures) (set-key-is (s .args .ws) (search needs) (s .args .i) (s .args .k) (s .pre .0) (s .pre .1))
+    let s = c .before .before in
+    rw (c .put-key .ensures, c .before .key-word .ensures) (set-key-is (s .args .ws) (search needs) (s .args .i) (s .args .k) (s .pre .0) (s .pre .1))
 
 pub set-key-spec : {M : Type 1} → statement M
-set-key-spec = tie.close (tie.spec mul-put-key add-put-key put-key-requires returns)
+set-key-spec = tie.close (tie.spec key-word-requires put-key-requires returns)

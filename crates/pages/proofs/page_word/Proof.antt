@@ -1,32 +1,22 @@
+-- `pages::page_word` meets its contract: the page's first word and i words more.
+-- Assumes nothing.
+use borrow.Author.Needs.{needs}
 use denote.Ref.{now}
 use Rattle.pages.proofs.Placed.{page-word-is}
-use borrow.Author.Needs.{needs}
 use Rattle.pages.proofs.page_word.Statement.{statement}
 use Rattle.pages.proofs.page_word.Tie as tie
-use Rattle.pages.proofs.page_word.Reads as reads
-use Rattle.pages.proofs.page_word.Lts as lts
-use Rattle.words.proofs.wide.Reads as wide-reads
-use Rattle.words.proofs.word.Reads as word-reads
 
--- src/lib.rt:22:27
-wide-requires : tie.Need-wide-requires
-wide-requires c κs = search needs
+page-at-requires : tie.Need-page-at-requires
+page-at-requires c κs = search needs
 
--- src/lib.rt:22:22
-mul-word : tie.Need-mul-word
-mul-word c = search needs
-
--- src/lib.rt:22:22
 add-word : tie.Need-add-word
 add-word c = search needs
 
--- src/lib.rt:22:5
 word-requires : tie.Need-word-requires
 word-requires c κs = search needs
 
--- src/lib.rt:18:1
 returns : tie.Need-returns
-returns c = page-word-is (now (c .before .before .before .args .img)) _ _ _ _ (c .before .before .before .pre) (c .before .wide .ensures) (c .word .ensures)
+returns c = page-word-is (now (c .before .before .before .args .img)) _ _ _ _ (c .before .before .before .pre) (c .before .page-at .ensures) (c .word .ensures)
 
 pub page-word-spec : {M : Type 1} → statement M
-page-word-spec = tie.close (tie.spec wide-requires mul-word add-word word-requires returns)
+page-word-spec = tie.close (tie.spec page-at-requires add-word word-requires returns)

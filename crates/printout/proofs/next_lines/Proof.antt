@@ -6,7 +6,6 @@ use borrow.Author.Needs.{needs}
 use Rattle.printout.proofs.next_lines.Statement.{statement}
 use Rattle.printout.proofs.next_lines.Tie as tie
 use Rattle.join.proofs.pairs_past.Reads as pairs-past-reads
-use Rattle.printout.proofs.mark_behind.Reads as mark-behind-reads
 use Rattle.printout.proofs.put_pairs.Reads as put-pairs-reads
 
 pairs-past-requires : tie.Need-pairs-past-requires

@@ -6,7 +6,7 @@ use Rattle.path.proofs.Ways.{descend-asks}
 use Rattle.remove.proofs.Removing.{take-asks, high-enough, leaf-done, mend-asks, kept-done, shrink-asks, shrunk-done}
 use Rattle.remove.proofs.remove.Statement.{statement}
 use Rattle.remove.proofs.remove.Tie as tie
-use Rattle.entries.proofs.shrink_root.Reads as shrink-root-reads
+use Rattle.roots.proofs.shrink_root.Reads as shrink-root-reads
 use Rattle.entries.proofs.take_entry.Reads as take-entry-reads
 use Rattle.pages.proofs.fill.Reads as fill-reads
 use Rattle.path.proofs.depth.Reads as depth-reads

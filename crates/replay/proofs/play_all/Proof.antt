@@ -9,8 +9,8 @@ use Rattle.replay.proofs.play_all.Tie as tie
 use Rattle.replay.proofs.fresh.Reads as fresh-reads
 use Rattle.replay.proofs.play.Reads as play-reads
 use Rattle.replay.proofs.no_command.Reads as no-command-reads
-use Rattle.replay.proofs.script.line_end.Reads as line-end-reads
-use Rattle.replay.proofs.script.read.Reads as read-reads
+use Rattle.script.proofs.line_end.Reads as line-end-reads
+use Rattle.script.proofs.read.Reads as read-reads
 
 abbrev Inv-loop : tie.InvT-loop
 Inv-loop text outer₀ inner₀ buffer₀ answers₀ store₀ line₀ at₀ outer inner buffer answers store line at =

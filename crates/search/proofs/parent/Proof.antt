@@ -4,7 +4,7 @@ use borrow.Author.Needs.{needs}
 use mathlib.Core.Path.{ap, sym, _∙_}
 use denote.Ref.{now}
 use Rattle.image.specs.Read.{setOf}
-use Rattle.search.specs.Tallies.{foundList}
+use Rattle.tally.specs.Tallies.{foundList}
 use Rattle.path.proofs.Ways.{descend-asks}
 use Rattle.search.proofs.Tops.{parent-found, parent-none}
 use Rattle.search.proofs.parent.Statement.{statement}

@@ -18,9 +18,9 @@ use Rattle.pages.proofs.child.Reads as child-reads
 use Rattle.pages.proofs.fill.Reads as fill-reads
 use Rattle.pages.proofs.key_number.Reads as key-number-reads
 use Rattle.shape.proofs.page_right.Reads as page-right-reads
-use Rattle.shape.proofs.pass_code.Reads as pass-code-reads
+use Rattle.passes.proofs.pass_code.Reads as pass-code-reads
 use Rattle.shape.proofs.pass_entries.Reads as pass-entries-reads
-use Rattle.shape.proofs.pass_page.Reads as pass-page-reads
+use Rattle.passes.proofs.pass_page.Reads as pass-page-reads
 use Rattle.words.proofs.wide.Reads as wide-reads
 use Rattle.shape.proofs.+pass_tree.{statement}
 use Rattle.shape.proofs.+pass_tree.Tie.{close}

@@ -19,14 +19,14 @@ array-read-q c = search needs
 load-page-requires : tie.Need-load-page-requires
 load-page-requires c κs = let s = c .before .before .pre .1 .1 in (s .child-at .stands .long, q-range (s .child-at))
 
-child-of-requires : tie.Need-child-of-requires
-child-of-requires c κs = let s = c .before .before .before .pre .1 .1 in omega (arith, i-fits (s .child-at), s .child-at .stands .held .0 .fill-is, s .room)
+child-in-requires : tie.Need-child-in-requires
+child-in-requires c κs = let s = c .before .before .before .pre .1 .1 in omega (arith, i-fits (s .child-at), s .child-at .stands .held .0 .fill-is, s .room)
 
 load-page-requires-2 : tie.Need-load-page-requires-2
 load-page-requires-2 c κs =
     let s = c .before .before .before .before .before .pre .1 .1 in
     let page = c .before .before .load-page in
-    let place = c .before .child-of in
+    let place = c .before .child-in in
     (s .child-at .stands .long, child-range (s .child-at) (page .result) (place .result) (page .ensures) (place .ensures))
 
 first-free-page-requires : tie.Need-first-free-page-requires
@@ -36,7 +36,7 @@ raise-requires : tie.Need-raise-requires
 raise-requires c κs =
     let s = c .before .before .before .before .before .before .before .before .before .pre .1 .1 in
     let page = c .before .before .before .before .before .before .load-page in
-    let place = c .before .before .before .before .before .child-of in
+    let place = c .before .before .before .before .before .child-in in
     let child = c .before .before .before .load-page2 in
     let f = child-fits s (page .result) (place .result) (child .result) (page .ensures) (place .ensures) (child .ensures) in
     ((s .child-at .stands .long, f .0, f .1), (c .before .before .before .before .before .before .before .before .before .pre .1 .0, raise-asks s (page .result) (place .result) (child .result) (page .ensures) (place .ensures) (child .ensures)))
@@ -45,7 +45,7 @@ enter-key-requires : tie.Need-enter-key-requires
 enter-key-requires c κs =
     let s = c .before .before .before .before .before .before .before .before .before .before .before .before .before .before .before .pre .1 .1 in
     let page = c .before .before .before .before .before .before .before .before .before .before .before .before .load-page in
-    let place = c .before .before .before .before .before .before .before .before .before .before .before .child-of in
+    let place = c .before .before .before .before .before .before .before .before .before .before .before .child-in in
     let child = c .before .before .before .before .before .before .before .before .before .load-page2 in
     let g = c .before .before .before .before .before .raise .ensures in
     let a = page-fits s (page .result) (place .result) (child .result) (page .ensures) (place .ensures) (child .ensures) in
@@ -55,7 +55,7 @@ inner-left-requires : tie.Need-inner-left-requires
 inner-left-requires c κs =
     let s = c .before .before .before .before .before .before .before .before .before .before .before .before .before .before .before .before .before .before .pre .1 .1 in
     let page = c .before .before .before .before .before .before .before .before .before .before .before .before .before .before .before .load-page in
-    let place = c .before .before .before .before .before .before .before .before .before .before .before .before .before .before .child-of in
+    let place = c .before .before .before .before .before .before .before .before .before .before .before .before .before .before .child-in in
     let child = c .before .before .before .before .before .before .before .before .before .before .before .before .load-page2 in
     let a = risen-fits s (page .result) (place .result) (child .result) (page .ensures) (place .ensures) (child .ensures) (c .before .before .before .before .before .before .before .before .raise .ensures) in
     (omega arith, omega arith)
@@ -64,7 +64,7 @@ inner-right-requires : tie.Need-inner-right-requires
 inner-right-requires c κs =
     let s = c .before .before .before .before .before .before .before .before .before .before .before .before .before .before .before .before .before .before .before .pre .1 .1 in
     let page = c .before .before .before .before .before .before .before .before .before .before .before .before .before .before .before .before .load-page in
-    let place = c .before .before .before .before .before .before .before .before .before .before .before .before .before .before .before .child-of in
+    let place = c .before .before .before .before .before .before .before .before .before .before .before .before .before .before .before .child-in in
     let child = c .before .before .before .before .before .before .before .before .before .before .before .before .before .load-page2 in
     let a = risen-fits s (page .result) (place .result) (child .result) (page .ensures) (place .ensures) (child .ensures) (c .before .before .before .before .before .before .before .before .before .raise .ensures) in
     (omega arith, omega arith)
@@ -73,7 +73,7 @@ store-split-requires : tie.Need-store-split-requires
 store-split-requires c κs =
     let s = c .before .before .before .before .before .before .before .before .before .before .before .before .before .before .before .before .before .before .before .before .before .pre .1 .1 in
     let page = c .before .before .before .before .before .before .before .before .before .before .before .before .before .before .before .before .before .before .load-page in
-    let place = c .before .before .before .before .before .before .before .before .before .before .before .before .before .before .before .before .before .child-of in
+    let place = c .before .before .before .before .before .before .before .before .before .before .before .before .before .before .before .before .before .child-in in
     let child = c .before .before .before .before .before .before .before .before .before .before .before .before .before .before .before .load-page2 in
     let g = c .before .before .before .before .before .before .before .before .before .before .before .raise .ensures in
     let e = c .before .before .before .before .before .enter-key .ensures (suc (c .before .before .before .before .before .before .before .before .before .before .before .before .before .before .before .before .before .before .before .before .before .pre .1 .0)) (key-asks s (page .result) (place .result) (child .result) (page .ensures) (place .ensures) (child .ensures) g) in
@@ -86,7 +86,7 @@ same-length c = search needs
 returns : tie.Need-returns
 returns c = λ h s.
     let page = c .before .before .before .before .before .before .before .before .before .before .before .before .before .before .before .before .before .before .before .before .before .load-page in
-    let place = c .before .before .before .before .before .before .before .before .before .before .before .before .before .before .before .before .before .before .before .before .child-of in
+    let place = c .before .before .before .before .before .before .before .before .before .before .before .before .before .before .before .before .before .before .before .before .child-in in
     let child = c .before .before .before .before .before .before .before .before .before .before .before .before .before .before .before .before .before .before .load-page2 in
     inner-split s (page .result) (place .result) (child .result) (page .ensures) (place .ensures) (child .ensures) (c .before .before .before .before .before .before .before .before .before .before .before .before .before .before .raise .ensures) (c .before .before .before .before .before .before .before .before .before .before .before .before .before .before .before .before .first-free-page .ensures)
     (c .before .before .before .before .before .before .before .before .enter-key .ensures) (c .before .before .before .before .before .inner-left .ensures) (c .before .before .before .before .inner-right .ensures) (c .before .before .store-split .ensures)
@@ -98,7 +98,7 @@ inner-spec =
     mul-q
     array-read-q
     load-page-requires
-    child-of-requires
+    child-in-requires
     load-page-requires-2
     first-free-page-requires
     raise-requires

@@ -18,14 +18,14 @@ array-read-q c = search needs
 load-page-requires : tie.Need-load-page-requires
 load-page-requires c κs = let s = c .before .before .pre .1 in (s .child-at .stands .long, q-range (s .child-at))
 
-child-of-requires : tie.Need-child-of-requires
-child-of-requires c κs = let s = c .before .before .before .pre .1 in omega (arith, i-fits (s .child-at), s .child-at .stands .held .0 .fill-is, s .room)
+child-in-requires : tie.Need-child-in-requires
+child-in-requires c κs = let s = c .before .before .before .pre .1 in omega (arith, i-fits (s .child-at), s .child-at .stands .held .0 .fill-is, s .room)
 
 load-page-requires-2 : tie.Need-load-page-requires-2
 load-page-requires-2 c κs =
     let s = c .before .before .before .before .before .pre .1 in
     let page = c .before .before .load-page in
-    let child = c .before .child-of in
+    let child = c .before .child-in in
     (s .child-at .stands .long, child-range (s .child-at) (page .result) (child .result) (page .ensures) (child .ensures))
 
 first-free-page-requires : tie.Need-first-free-page-requires
@@ -35,7 +35,7 @@ cut-key-requires : tie.Need-cut-key-requires
 cut-key-requires c κs =
     let s = c .before .before .before .before .before .before .before .before .pre .1 in
     let page = c .before .before .before .before .before .load-page in
-    let child = c .before .before .before .before .child-of in
+    let child = c .before .before .before .before .child-in in
     let leaf = c .before .before .load-page2 in
     cut-asks s (page .result) (child .result) (leaf .result) (page .ensures) (child .ensures) (leaf .ensures)
 
@@ -43,7 +43,7 @@ add-gather : tie.Need-add-gather
 add-gather c =
     let s = c .before .before .before .before .before .before .before .before .before .before .pre .1 in
     let page = c .before .before .before .before .before .before .before .load-page in
-    let child = c .before .before .before .before .before .before .child-of in
+    let child = c .before .before .before .before .before .before .child-in in
     let leaf = c .before .before .before .before .load-page2 in
     let e = cut-asks s (page .result) (child .result) (leaf .result) (page .ensures) (child .ensures) (leaf .ensures) in
     omega arith
@@ -52,7 +52,7 @@ gather-requires : tie.Need-gather-requires
 gather-requires c κs =
     let s = c .before .before .before .before .before .before .before .before .before .before .pre .1 in
     let page = c .before .before .before .before .before .before .before .load-page in
-    let child = c .before .before .before .before .before .before .child-of in
+    let child = c .before .before .before .before .before .before .child-in in
     let leaf = c .before .before .before .before .load-page2 in
     let k = c .before .cut-key in
     let b = key-lies s (page .result) (child .result) (leaf .result) (page .ensures) (child .ensures) (leaf .ensures) in
@@ -62,7 +62,7 @@ add-flagged : tie.Need-add-flagged
 add-flagged c =
     let s = c .before .before .before .before .before .before .before .before .before .before .before .before .before .pre .1 in
     let page = c .before .before .before .before .before .before .before .before .before .before .load-page in
-    let child = c .before .before .before .before .before .before .before .before .before .child-of in
+    let child = c .before .before .before .before .before .before .before .before .before .child-in in
     let leaf = c .before .before .before .before .before .before .before .load-page2 in
     let e = cut-asks s (page .result) (child .result) (leaf .result) (page .ensures) (child .ensures) (leaf .ensures) in
     omega arith
@@ -71,7 +71,7 @@ flagged-requires : tie.Need-flagged-requires
 flagged-requires c κs =
     let s = c .before .before .before .before .before .before .before .before .before .before .before .before .before .pre .1 in
     let page = c .before .before .before .before .before .before .before .before .before .before .load-page in
-    let child = c .before .before .before .before .before .before .before .before .before .child-of in
+    let child = c .before .before .before .before .before .before .before .before .before .child-in in
     let leaf = c .before .before .before .before .before .before .before .load-page2 in
     flag-asks s (page .result) (child .result) (leaf .result) (page .ensures) (child .ensures) (leaf .ensures)
 
@@ -79,7 +79,7 @@ enter-key-requires : tie.Need-enter-key-requires
 enter-key-requires c κs =
     let s = c .before .before .before .before .before .before .before .before .before .before .before .before .before .before .before .pre .1 in
     let page = c .before .before .before .before .before .before .before .before .before .before .before .before .load-page in
-    let child = c .before .before .before .before .before .before .before .before .before .before .before .child-of in
+    let child = c .before .before .before .before .before .before .before .before .before .before .before .child-in in
     let leaf = c .before .before .before .before .before .before .before .before .before .load-page2 in
     let k = c .before .before .before .before .before .before .cut-key in
     let b = key-lies s (page .result) (child .result) (leaf .result) (page .ensures) (child .ensures) (leaf .ensures) in
@@ -91,7 +91,7 @@ leaf-left-requires : tie.Need-leaf-left-requires
 leaf-left-requires c κs =
     let s = c .before .before .before .before .before .before .before .before .before .before .before .before .before .before .before .before .before .before .pre .1 in
     let page = c .before .before .before .before .before .before .before .before .before .before .before .before .before .before .before .load-page in
-    let child = c .before .before .before .before .before .before .before .before .before .before .before .before .before .before .child-of in
+    let child = c .before .before .before .before .before .before .before .before .before .before .before .before .before .before .child-in in
     let leaf = c .before .before .before .before .before .before .before .before .before .before .before .before .load-page2 in
     let e = c .before .before .before .before .flagged .ensures .fill-is in
     let a = flag-asks s (page .result) (child .result) (leaf .result) (page .ensures) (child .ensures) (leaf .ensures) in
@@ -101,7 +101,7 @@ leaf-right-requires : tie.Need-leaf-right-requires
 leaf-right-requires c κs =
     let s = c .before .before .before .before .before .before .before .before .before .before .before .before .before .before .before .before .before .before .before .pre .1 in
     let page = c .before .before .before .before .before .before .before .before .before .before .before .before .before .before .before .before .load-page in
-    let child = c .before .before .before .before .before .before .before .before .before .before .before .before .before .before .before .child-of in
+    let child = c .before .before .before .before .before .before .before .before .before .before .before .before .before .before .before .child-in in
     let leaf = c .before .before .before .before .before .before .before .before .before .before .before .before .before .load-page2 in
     let e = c .before .before .before .before .before .flagged .ensures .fill-is in
     let a = flag-asks s (page .result) (child .result) (leaf .result) (page .ensures) (child .ensures) (leaf .ensures) in
@@ -111,7 +111,7 @@ store-split-requires : tie.Need-store-split-requires
 store-split-requires c κs =
     let s = c .before .before .before .before .before .before .before .before .before .before .before .before .before .before .before .before .before .before .before .before .before .pre .1 in
     let page = c .before .before .before .before .before .before .before .before .before .before .before .before .before .before .before .before .before .before .load-page in
-    let child = c .before .before .before .before .before .before .before .before .before .before .before .before .before .before .before .before .before .child-of in
+    let child = c .before .before .before .before .before .before .before .before .before .before .before .before .before .before .before .before .before .child-in in
     let leaf = c .before .before .before .before .before .before .before .before .before .before .before .before .before .before .before .load-page2 in
     let k = c .before .before .before .before .before .before .before .before .before .before .before .before .cut-key in
     let b = key-lies s (page .result) (child .result) (leaf .result) (page .ensures) (child .ensures) (leaf .ensures) in
@@ -126,7 +126,7 @@ same-length c = search needs
 returns : tie.Need-returns
 returns c = λ s.
     let page = c .before .before .before .before .before .before .before .before .before .before .before .before .before .before .before .before .before .before .before .before .before .load-page in
-    let child = c .before .before .before .before .before .before .before .before .before .before .before .before .before .before .before .before .before .before .before .before .child-of in
+    let child = c .before .before .before .before .before .before .before .before .before .before .before .before .before .before .before .before .before .before .before .before .child-in in
     let leaf = c .before .before .before .before .before .before .before .before .before .before .before .before .before .before .before .before .before .before .load-page2 in
     let k = c .before .before .before .before .before .before .before .before .before .before .before .before .before .before .before .cut-key in
     let b = key-lies s (page .result) (child .result) (leaf .result) (page .ensures) (child .ensures) (leaf .ensures) in
@@ -140,7 +140,7 @@ leaf-spec =
     mul-q
     array-read-q
     load-page-requires
-    child-of-requires
+    child-in-requires
     load-page-requires-2
     first-free-page-requires
     cut-key-requires

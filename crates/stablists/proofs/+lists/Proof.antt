@@ -7,7 +7,8 @@ use borrow.Author.Needs.{needs}
 use native.Mathlib.Omega.{arith}
 use Rattle.pages.specs.Layout.{pageOf, fillOf}
 use Rattle.stablists.specs.Pass.{passKeys, passAt}
-use Rattle.stablists.proofs.Turns.{page-begin, page-more, page-done, fills-child}
+use Rattle.trail.proofs.Loops.{fills-child}
+use Rattle.stablists.proofs.Turns.{page-begin, page-more, page-done}
 use borrow.Fn.Kinds.{In}
 use borrow.Fn.PlainCycle.{Measures, is, falls, and}
 use Rattle.stablists.proofs.lists.Reads as lists

@@ -4,7 +4,7 @@ use Prim.Native.Nat.{_≤_, _-_}
 use mathlib.Core.Bool.{true}
 use native.Mathlib.Omega.{arith}
 use Rattle.stack.specs.Stacks.{stacked}
-use Rattle.stack.specs.Pairs.{PairedUp}
+use Rattle.pairing.specs.Pairs.{PairedUp}
 use Rattle.stack.proofs.Stacked.{stacked-long, read-holds}
 use Rattle.stack.proofs.Pairs.{paired-long, paired-start, paired-more, paired-done, paired-full}
 use Rattle.stack.proofs.pair_fitting.Statement.{statement}

@@ -1,18 +1,15 @@
--- `store::free_page` meets its contract: one word is written, at the place that was widened.
+-- `store::free_page` meets its contract: one word is written, at the place by its definition.
 -- Assumes nothing.
 use borrow.Author.Needs.{needs}
 use Rattle.store.specs.Store.{freePage}
 use Rattle.store.proofs.free_page.Statement.{statement}
 use Rattle.store.proofs.free_page.Tie as tie
 
-wide-requires : tie.Need-wide-requires
-wide-requires c κs = search needs
+page-at-requires : tie.Need-page-at-requires
+page-at-requires c κs = search needs
 
 mul-img : tie.Need-mul-img
 mul-img c = search needs
-
-mul-img-2 : tie.Need-mul-img-2
-mul-img-2 c = search needs
 
 slice-write-img : tie.Need-slice-write-img
 slice-write-img c = search needs
@@ -22,8 +19,7 @@ same-length c = search needs
 
 returns : tie.Need-returns
 unfolding freePage
-returns c = rw (c .wide .ensures)
+returns c = rw (c .page-at .ensures)
 
 pub free-page-spec : {M : Type 1} → statement M
-free-page-spec =
-    tie.close (tie.spec wide-requires mul-img mul-img-2 slice-write-img same-length returns)
+free-page-spec = tie.close (tie.spec page-at-requires mul-img slice-write-img same-length returns)

@@ -1,24 +1,18 @@
--- `store::free_record` meets its contract: one word is written, at the place that was widened.
+-- `store::free_record` meets its contract: one word is written, at the place by its definition.
 -- Assumes nothing.
 use borrow.Author.Needs.{needs}
 use Rattle.store.specs.Store.{freeRecord}
 use Rattle.store.proofs.free_record.Statement.{statement}
 use Rattle.store.proofs.free_record.Tie as tie
 
-wide-requires : tie.Need-wide-requires
-wide-requires c κs = search needs
-
-mul-img : tie.Need-mul-img
-mul-img c = search needs
+record-at-requires : tie.Need-record-at-requires
+record-at-requires c κs = search needs
 
 add-img : tie.Need-add-img
 add-img c = search needs
 
-add-img-2 : tie.Need-add-img-2
-add-img-2 c = search needs
-
-mul-img-2 : tie.Need-mul-img-2
-mul-img-2 c = search needs
+mul-img : tie.Need-mul-img
+mul-img c = search needs
 
 slice-write-img : tie.Need-slice-write-img
 slice-write-img c = search needs
@@ -28,17 +22,8 @@ same-length c = search needs
 
 returns : tie.Need-returns
 unfolding freeRecord
-returns c = rw (c .wide .ensures)
+returns c = rw (c .record-at .ensures)
 
 pub free-record-spec : {M : Type 1} → statement M
 free-record-spec =
-    tie.close
-    (tie.spec
-    wide-requires
-    mul-img
-    add-img
-    add-img-2
-    mul-img-2
-    slice-write-img
-    same-length
-    returns)
+    tie.close (tie.spec record-at-requires add-img mul-img slice-write-img same-length returns)

@@ -16,11 +16,8 @@ Inv-loop img p b ws₀ i₀ ws i = (i ≤ 57) × (length ws ≡ 57) × (take i w
 abbrev μ-loop : tie.MeasureT-loop
 μ-loop img p b ws₀ i₀ ws i = 57 - i
 
-wide-requires : tie.Need-wide-requires Inv-loop μ-loop
-wide-requires c κs = search needs
-
-mul-b : tie.Need-mul-b Inv-loop μ-loop
-mul-b c = search needs
+page-at-requires : tie.Need-page-at-requires Inv-loop μ-loop
+page-at-requires c κs = search needs
 
 loop-holds : tie.Need-loop-holds Inv-loop μ-loop
 loop-holds c = (omega arith, refl, refl)
@@ -56,7 +53,7 @@ returns : tie.Need-returns Inv-loop μ-loop
 returns c =
     let q = c .before .loop in
     let s = c .before .before .before .before in
-    load-done (q .ws) (now (s .args .img)) _ _ (q .i) (q .inv .0) (c .loop-test .left) (q .inv .1) (c .before .before .wide .ensures) (q .inv .2)
+    load-done (q .ws) (now (s .args .img)) _ _ (q .i) (q .inv .0) (c .loop-test .left) (q .inv .1) (c .before .before .page-at .ensures) (q .inv .2)
 
 pub load-page-spec : {M : Type 1} → statement M
 load-page-spec =
@@ -64,8 +61,7 @@ load-page-spec =
     (tie.spec
     Inv-loop
     μ-loop
-    wide-requires
-    mul-b
+    page-at-requires
     loop-holds
     add-ws
     mul-ws

@@ -9,14 +9,8 @@ use Rattle.store.specs.Store.{putRecord}
 use Rattle.store.proofs.put_record.Statement.{statement}
 use Rattle.store.proofs.put_record.Tie as tie
 
-wide-requires : tie.Need-wide-requires
-wide-requires c κs = search needs
-
-mul-b : tie.Need-mul-b
-mul-b c = search needs
-
-add-b : tie.Need-add-b
-add-b c = search needs
+record-at-requires : tie.Need-record-at-requires
+record-at-requires c κs = search needs
 
 mul-img : tie.Need-mul-img
 mul-img c = search needs
@@ -65,15 +59,13 @@ same-length c = search needs
 
 returns : tie.Need-returns
 unfolding putRecord
-returns c = let s = c .before .before .args in put-five (now (s .img)) _ _ (s .r .start) (s .r .end) (s .r .level) (s .r .reference) (s .next) (c .wide .ensures)
+returns c = let s = c .before .before .args in put-five (now (s .img)) _ _ (s .r .start) (s .r .end) (s .r .level) (s .r .reference) (s .next) (c .record-at .ensures)
 
 pub put-record-spec : {M : Type 1} → statement M
 put-record-spec =
     tie.close
     (tie.spec
-    wide-requires
-    mul-b
-    add-b
+    record-at-requires
     mul-img
     slice-write-img
     add-img

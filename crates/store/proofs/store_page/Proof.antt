@@ -17,11 +17,8 @@ Inv-loop img₀ p ws b i₀ img i = (i ≤ 57) × (length img ≡ length img₀)
 abbrev μ-loop : tie.MeasureT-loop
 μ-loop img₀ p ws b i₀ img i = 57 - i
 
-wide-requires : tie.Need-wide-requires Inv-loop μ-loop
-wide-requires c κs = search needs
-
-mul-b : tie.Need-mul-b Inv-loop μ-loop
-mul-b c = search needs
+page-at-requires : tie.Need-page-at-requires Inv-loop μ-loop
+page-at-requires c κs = search needs
 
 loop-holds : tie.Need-loop-holds Inv-loop μ-loop
 loop-holds c = (omega arith, refl, store-start (now (c .before .before .args .img)) (c .before .before .args .t3) _)
@@ -59,7 +56,7 @@ returns : tie.Need-returns Inv-loop μ-loop
 returns c =
     let q = c .before .loop in
     let s = c .before .before .before .before in
-    store-done (q .img) (now (s .args .img)) (s .args .t3) _ _ (q .i) (search needs) (c .before .before .wide .ensures) (q .inv .2)
+    store-done (q .img) (now (s .args .img)) (s .args .t3) _ _ (q .i) (search needs) (c .before .before .page-at .ensures) (q .inv .2)
 
 pub store-page-spec : {M : Type 1} → statement M
 store-page-spec =
@@ -67,8 +64,7 @@ store-page-spec =
     (tie.spec
     Inv-loop
     μ-loop
-    wide-requires
-    mul-b
+    page-at-requires
     loop-holds
     mul-img
     array-read-img

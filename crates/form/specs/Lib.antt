@@ -1,0 +1,3 @@
+pub mod Form
+pub mod Readers
+pub mod Steps

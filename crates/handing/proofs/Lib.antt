@@ -1,0 +1,4 @@
+pub mod Clearing
+pub mod Sinking
+pub mod Handing
+pub mod Keys

@@ -1,0 +1,139 @@
+-- A turn and each way out of the loops that search a list of records, a page's keys, a leaf's entries, and of a key and an entry.
+-- Assumes nothing.
+use Prim.Native.Nat.{ℕ, suc, _+_, _-_, _*_, _≤_, _<_}
+use mathlib.Core.Path.{_≡_, refl, sym, ap, _∙_}
+use mathlib.Core.Bool.{true, false}
+use mathlib.Core.List.{List, [], _∷_}
+use lib.ListN.{getD}
+use native.Mathlib.Omega.{arith}
+use native.Mathlib.Numerals.{add-one}
+use Rattle.regions.specs.Positions.{holds}
+use Rattle.regions.specs.declared.Region.{Region}
+use Rattle.pages.specs.Layout.{pageOf, fillOf, recordOf, recordNext, regionIn, entryWord, flagIn, keyWord}
+use Rattle.xrtree.specs.Search.{run, cost}
+use Rattle.image.specs.Read.{entryAt}
+use Rattle.tally.specs.declared.Task.{Task}
+use Rattle.tally.specs.declared.Tally.{Tally}
+use Rattle.tally.specs.Tallies.{Tallied, stepped}
+use Rattle.meets.specs.PageMet.{heldFrom, lookedFrom, keyIn, listsFrom, listsLookedFrom, listsMet, listsLooked, entriesMet, ownFrom, leafMet}
+use Rattle.meets.proofs.Tallies.{Leads, leads-all, tallied-none, tallied-step, tallied-then, leads-on, leads-last, leads-done}
+use Rattle.meets.proofs.PageMet.{records-few, held-ended, looked-ended, held-stop, looked-stop, held-more, looked-more, held-none, looked-none, run-low, run-high, run-list, cost-low, cost-high, cost-list, run-few, cost-few, lists-none, lists-looked-none, lists-last, lists-looked-last, lists-more, lists-looked-more, entry-listed, entry-beside, entry-met, entry-few, own-none, own-more}
+
+-- A LIST: n records were looked at, and q is the next
+abbrev pub Walking : Task → List ℕ → Tally → List ℕ → ℕ → ℕ → List ℕ → Tally → ℕ → ℕ → Type 0
+Walking task out₀ t₀ w p head out t q n =
+    Leads task out₀ t₀ (heldFrom w p 501 head) (lookedFrom w p 501 head) out t (heldFrom w p (501 - n) q) (lookedFrom w p (501 - n) q) n
+
+module _ {task : Task} {out₀ : List ℕ} {t₀ : Tally} (w : List ℕ) (p head : ℕ) {out : List ℕ} {t : Tally} (q n : ℕ) (l : Walking task out₀ t₀ w p head out t q n) where
+  abbrev pub Walked : List ℕ → Tally → Type 0
+  Walked out′ t′ = Tallied task out₀ t₀ (heldFrom w p 501 head) (lookedFrom w p 501 head) out′ t′
+
+  pub walk-ended : q ≡ 0 → Walked out t
+  walk-ended e = leads-done l (held-ended p w (501 - n) q e) (looked-ended p w (501 - n) q e)
+
+  pub walk-full : 501 ≤ n → Walked out t
+  walk-full h = let e : 501 - n ≡ 0 = omega arith in leads-done l (held-none p w (501 - n) q e) (looked-none p w (501 - n) q e)
+
+  module _ (a : Region) (t₁ : Tally) (h : n < 501) (e : q ≡ 0 → ⊥) (f : a ≡ regionIn (recordOf w q) 0) (s : t₁ ≡ stepped t) where
+    pub walk-stop : holds p a ≡ false → Walked out t₁
+    walk-stop g =
+        let m : 501 - n ≡ suc (501 - (n + 1)) = omega arith in
+        leads-last l (tallied-step s) (held-stop p w (501 - n) (501 - (n + 1)) q a e m f g) (looked-stop p w (501 - n) (501 - (n + 1)) q a e m f g)
+
+    pub walk-on : (out₂ : List ℕ) (t₂ : Tally) (q₂ : ℕ) → holds p a ≡ true → Tallied task out t₁ (a ∷ []) 0 out₂ t₂ → q₂ ≡ recordNext (recordOf w q)
+        → Walking task out₀ t₀ w p head out₂ t₂ q₂ (n + 1)
+    walk-on out₂ t₂ q₂ g v d =
+        let m : 501 - n ≡ suc (501 - (n + 1)) = omega arith in
+        rw d
+        (leads-on l (tallied-then (tallied-step s) v) (held-more p w (501 - n) (501 - (n + 1)) q a e m f g) (looked-more p w (501 - n) (501 - (n + 1)) q a e m f g)
+        (omega arith) (omega arith))
+
+-- A KEY: its stored pair lies behind p, or before it, or holds it
+abbrev pub KeyMet : Task → List ℕ → Tally → List ℕ → ℕ → ℕ → ℕ → List ℕ → Tally → Type 0
+KeyMet task out t w page i p out′ t′ = Tallied task out t (run p (keyIn w page i)) (cost p (keyIn w page i)) out′ t′
+
+module _ {task : Task} {out : List ℕ} {t : Tally} (w : List ℕ) (page i p : ℕ) where
+  pub key-low : (s : ℕ) → s ≡ getD (pageOf w page) (keyWord i + 1) 0 → p ≤ s → KeyMet task out t w page i p out t
+  key-low s e h =
+      let g : p ≤ getD (pageOf w page) (keyWord i + 1) 0 = omega arith in
+      rw (run-low p (keyIn w page i) g, cost-low p (keyIn w page i) g) tallied-none
+
+  pub key-high : (u : ℕ) → u ≡ getD (pageOf w page) (keyWord i + 2) 0 → u ≤ p → KeyMet task out t w page i p out t
+  key-high u e h =
+      let g : getD (pageOf w page) (keyWord i + 2) 0 ≤ p = omega arith in
+      rw (run-high p (keyIn w page i) g, cost-high p (keyIn w page i) g) tallied-none
+
+  pub key-walked : (s u head : ℕ) (out′ : List ℕ) (t′ : Tally) → s ≡ getD (pageOf w page) (keyWord i + 1) 0 → u ≡ getD (pageOf w page) (keyWord i + 2) 0
+      → head ≡ getD (pageOf w page) (keyWord i + 3) 0 → s < p → p < u → Tallied task out t (heldFrom w p 501 head) (lookedFrom w p 501 head) out′ t′ → KeyMet task out t w page i p out′ t′
+  key-walked s u head out′ t′ d e f g h r =
+      let a : getD (pageOf w page) (keyWord i + 1) 0 < p = omega arith in
+      let b : p < getD (pageOf w page) (keyWord i + 2) 0 = omega arith in
+      rw (run-list p (keyIn w page i) a b, cost-list p (keyIn w page i) a b, ← f) r
+
+-- THE KEYS OF A PAGE: n of them, key i comes next
+abbrev pub Paging : Task → List ℕ → Tally → List ℕ → ℕ → ℕ → List ℕ → Tally → ℕ → ℕ → Type 0
+Paging task out₀ t₀ w page p out t n i =
+    Leads task out₀ t₀ (listsMet w p page) (listsLooked w p page) out t (listsFrom w p (pageOf w page) i (n - i)) (listsLookedFrom w p (pageOf w page) i (n - i)) (501 * i)
+
+pub page-start : {task : Task} {out : List ℕ} {t : Tally} (w : List ℕ) (page p n : ℕ) → n ≡ fillOf (pageOf w page) → Paging task out t w page p out t n 0
+page-start w page p n e = let f : n - 0 ≡ fillOf (pageOf w page) = omega arith in rw f leads-all
+
+module _ {task : Task} {out₀ : List ℕ} {t₀ : Tally} (w : List ℕ) (page p : ℕ) {out : List ℕ} {t : Tally} (n i : ℕ) (l : Paging task out₀ t₀ w page p out t n i) where
+  abbrev pub Paged : List ℕ → Tally → Type 0
+  Paged out′ t′ = Tallied task out₀ t₀ (listsMet w p page) (listsLooked w p page) out′ t′
+
+  pub page-done : n ≤ i → Paged out t
+  page-done h =
+      let e : n - i ≡ 0 = omega arith in
+      leads-done l (lists-none w p (pageOf w page) i (n - i) e) (lists-looked-none w p (pageOf w page) i (n - i) e)
+
+  module _ (out₁ : List ℕ) (t₁ : Tally) (k : ℕ) (h : i < n) (e : k ≡ getD (pageOf w page) (keyWord i) 0)
+      (r : KeyMet task out t w page i p out₁ t₁) where
+    pub page-last : p < k → Paged out₁ t₁
+    page-last g =
+        let m : n - i ≡ suc (n - suc i) = omega arith in
+        let d : p < getD (pageOf w page) (keyWord i) 0 = omega arith in
+        leads-last l r (lists-last w p (pageOf w page) i (n - i) (n - suc i) m d) (lists-looked-last w p (pageOf w page) i (n - i) (n - suc i) m d)
+
+    pub page-on : k ≤ p → Paging task out₀ t₀ w page p out₁ t₁ n (i + 1)
+    page-on g =
+        let m : n - i ≡ suc (n - suc i) = omega arith in
+        let d : getD (pageOf w page) (keyWord i) 0 ≤ p = omega arith in
+        let b = records-few w 501 (getD (pageOf w page) (keyWord i + 3) 0) in
+        leads-on l r
+        (rw (add-one i) (lists-more w p (pageOf w page) i (n - i) (n - suc i) m d))
+        (rw (add-one i) (lists-looked-more w p (pageOf w page) i (n - i) (n - suc i) m d))
+        (omega (arith, run-few p (keyIn w page i))) (omega (arith, cost-few p (keyIn w page i)))
+
+-- AN ENTRY: in a list, beside p, or met
+abbrev pub EntryMet : Task → List ℕ → Tally → List ℕ → ℕ → ℕ → ℕ → List ℕ → Tally → Type 0
+EntryMet task out t w page i p out′ t′ = Tallied task out t (entriesMet p (entryAt (pageOf w page) i ∷ [])) 0 out′ t′
+
+module _ {task : Task} {out : List ℕ} {t : Tally} (w : List ℕ) (page i p : ℕ) where
+  pub entry-in-list : (f : ℕ) → f ≡ flagIn (pageOf w page) i → (f ≡ 0 → ⊥) → EntryMet task out t w page i p out t
+  entry-in-list f e h =
+      let g : (flagIn (pageOf w page) i ≡ 0 → ⊥) = (λ z. h (e ∙ z)) in
+      rw (entry-listed p (entryAt (pageOf w page) i) g) tallied-none
+
+  module _ (a : Region) (d : a ≡ regionIn (pageOf w page) (entryWord i)) where
+    pub entry-outside : holds p a ≡ false → EntryMet task out t w page i p out t
+    entry-outside h = rw (entry-beside p (entryAt (pageOf w page) i) (ap (holds p) (sym d) ∙ h)) tallied-none
+
+    pub entry-visited : (f : ℕ) (out′ : List ℕ) (t′ : Tally) → f ≡ flagIn (pageOf w page) i → f ≡ 0 → holds p a ≡ true → Tallied task out t (a ∷ []) 0 out′ t′ → EntryMet task out t w page i p out′ t′
+    entry-visited f out′ t′ e z h r = rw (entry-met p (entryAt (pageOf w page) i) (sym e ∙ z) (ap (holds p) (sym d) ∙ h), ← d) r
+
+-- THE ENTRIES OF A LEAF: n of them, entry i comes next
+abbrev pub Owning : Task → List ℕ → Tally → List ℕ → ℕ → ℕ → List ℕ → Tally → ℕ → ℕ → Type 0
+Owning task out₀ t₀ w page p out t n i = Leads task out₀ t₀ (leafMet w p page) 0 out t (ownFrom p (pageOf w page) i (n - i)) 0 i
+
+pub leaf-start : {task : Task} {out : List ℕ} {t : Tally} (w : List ℕ) (page p n : ℕ) → n ≡ fillOf (pageOf w page) → Owning task out t w page p out t n 0
+leaf-start w page p n e = let f : n - 0 ≡ fillOf (pageOf w page) = omega arith in rw f leads-all
+
+module _ {task : Task} {out₀ : List ℕ} {t₀ : Tally} (w : List ℕ) (page p : ℕ) {out : List ℕ} {t : Tally} (n i : ℕ) (l : Owning task out₀ t₀ w page p out t n i) where
+  pub leaf-done : n ≤ i → Tallied task out₀ t₀ (leafMet w p page) 0 out t
+  leaf-done h = let e : n - i ≡ 0 = omega arith in leads-done l (own-none p (pageOf w page) i (n - i) e) refl
+
+  pub leaf-on : (out₁ : List ℕ) (t₁ : Tally) → i < n → EntryMet task out t w page i p out₁ t₁ → Owning task out₀ t₀ w page p out₁ t₁ n (i + 1)
+  leaf-on out₁ t₁ h r =
+      let m : n - i ≡ suc (n - suc i) = omega arith in
+      leads-on l r (rw (add-one i) (own-more p (pageOf w page) i (n - i) (n - suc i) m)) (omega arith) (omega (arith, entry-few p (entryAt (pageOf w page) i))) (omega arith)

@@ -1,0 +1,173 @@
+-- What a page of the path adds to what a search has met, turn by turn.
+-- Assumes nothing.
+use Prim.Native.Nat.{ℕ, zero, suc, _+_, _≤_, _<_}
+use mathlib.Core.Path.{_≡_, refl, ap, _∙_}
+use mathlib.Core.Bool.{true, false, _&&_}
+use mathlib.Core.List.{List, [], _∷_, _++_, map, append-nil}
+use lib.Dec.{ltb, eqb}
+use lib.ListN.{length, getD}
+use native.Mathlib.Omega.{arith}
+use Rattle.words.specs.Lists.{filter, takeWhile}
+use Rattle.words.proofs.Tests.{by-test, eq-yes, eq-no, lt-yes, lt-no}
+use Rattle.words.proofs.Listed.{filter-append, map-append}
+use Rattle.regions.specs.Positions.{holds}
+use Rattle.regions.specs.declared.Region.{Region}
+use Rattle.pages.specs.Layout.{recordOf, recordNext, regionIn, keyWord}
+use Rattle.xrtree.specs.Tree.{Entry, Key, regionOf}
+use Rattle.xrtree.specs.Search.{run, looks, cost, findKids, stepsKids, holdsFree}
+use Rattle.image.specs.Read.{entryAt, entriesFrom, chain, recordRegion, keyAt, kidsFrom}
+use Rattle.meets.specs.PageMet.{recordsFrom, heldFrom, lookedFrom, listsFrom, listsLookedFrom, entriesMet, ownFrom}
+
+-- A LIST OF RECORDS, with n of them to go
+module _ (w : List ℕ) where
+  pub records-ended : (n q : ℕ) → q ≡ 0 → recordsFrom w n q ≡ []
+  unfolding chain
+  records-ended zero q e = refl
+  records-ended (suc n) q e = rw (eq-yes q 0 e)
+
+  pub records-more : (n m q : ℕ) → (q ≡ 0 → ⊥) → n ≡ suc m → recordsFrom w n q ≡ recordRegion w q ∷ recordsFrom w m (recordNext (recordOf w q))
+  unfolding chain
+  records-more n m q e h = rw (h, eq-no q 0 e)
+
+  pub records-few : (n q : ℕ) → length (recordsFrom w n q) ≤ n
+  unfolding chain
+  records-few zero q = omega arith
+  records-few (suc n) q =
+      let i = records-few n (recordNext (recordOf w q)) in
+      by-test (eqb q 0) (λ h. rw h (omega arith)) (λ h. rw h (omega arith))
+
+-- a region that holds p is met and looked at; one that does not is looked at, and ends the walk
+module _ (p : ℕ) where
+  pub while-few : (rs : List Region) → length (takeWhile (holds p) rs) ≤ length rs
+  unfolding takeWhile
+  while-few [] = omega arith
+  while-few (r ∷ rs) = let i = while-few rs in by-test (holds p r) (λ h. rw h (omega arith)) (λ h. rw h (omega arith))
+
+  pub looks-few : (rs : List Region) → looks p rs ≤ length rs
+  unfolding looks
+  looks-few [] = omega arith
+  looks-few (r ∷ rs) = let i = looks-few rs in by-test (holds p r) (λ h. rw h (omega arith)) (λ h. rw h (omega arith))
+
+  module _ (w : List ℕ) where
+    pub held-ended : (n q : ℕ) → q ≡ 0 → heldFrom w p n q ≡ []
+    unfolding takeWhile
+    held-ended n q e = rw (records-ended w n q e)
+
+    pub looked-ended : (n q : ℕ) → q ≡ 0 → lookedFrom w p n q ≡ 0
+    unfolding looks
+    looked-ended n q e = rw (records-ended w n q e)
+
+    pub held-none : (n q : ℕ) → n ≡ 0 → heldFrom w p n q ≡ []
+    unfolding takeWhile chain
+    held-none n q e = rw e
+
+    pub looked-none : (n q : ℕ) → n ≡ 0 → lookedFrom w p n q ≡ 0
+    unfolding looks chain
+    looked-none n q e = rw e
+
+    module _ (n m q : ℕ) (a : Region) (e : q ≡ 0 → ⊥) (l : n ≡ suc m) (f : a ≡ regionIn (recordOf w q) 0) where
+      pub held-stop : holds p a ≡ false → heldFrom w p n q ≡ []
+      unfolding takeWhile recordRegion
+      held-stop h = rw (records-more w n m q e l, ← f, h)
+
+      pub looked-stop : holds p a ≡ false → lookedFrom w p n q ≡ 1
+      unfolding looks recordRegion
+      looked-stop h = rw (records-more w n m q e l, ← f, h)
+
+      pub held-more : holds p a ≡ true → heldFrom w p n q ≡ a ∷ heldFrom w p m (recordNext (recordOf w q))
+      unfolding takeWhile recordRegion
+      held-more h = rw (records-more w n m q e l, ← f, h)
+
+      pub looked-more : holds p a ≡ true → lookedFrom w p n q ≡ 1 + lookedFrom w p m (recordNext (recordOf w q))
+      unfolding looks recordRegion
+      looked-more h = rw (records-more w n m q e l, ← f, h) (omega arith)
+
+-- A KEY: its stored pair does not hold p, or it does
+module _ (p : ℕ) (k : Key) where
+  pub run-low : p ≤ k .pairStart → run p k ≡ []
+  unfolding run
+  run-low h = rw (lt-no (k .pairStart) p h)
+
+  pub run-high : k .pairEnd ≤ p → run p k ≡ []
+  unfolding run
+  run-high h = by-test (ltb (k .pairStart) p) (λ e. rw (e, lt-no p (k .pairEnd) h)) (λ e. rw e)
+
+  pub run-list : k .pairStart < p → p < k .pairEnd → run p k ≡ takeWhile (holds p) (k .list)
+  unfolding run
+  run-list h g = rw (lt-yes (k .pairStart) p h, lt-yes p (k .pairEnd) g)
+
+  pub cost-low : p ≤ k .pairStart → cost p k ≡ 0
+  unfolding cost
+  cost-low h = rw (lt-no (k .pairStart) p h)
+
+  pub cost-high : k .pairEnd ≤ p → cost p k ≡ 0
+  unfolding cost
+  cost-high h = by-test (ltb (k .pairStart) p) (λ e. rw (e, lt-no p (k .pairEnd) h)) (λ e. rw e)
+
+  pub cost-list : k .pairStart < p → p < k .pairEnd → cost p k ≡ looks p (k .list)
+  unfolding cost
+  cost-list h g = rw (lt-yes (k .pairStart) p h, lt-yes p (k .pairEnd) g)
+
+  pub run-few : length (run p k) ≤ length (k .list)
+  unfolding run
+  run-few = let i = while-few p (k .list) in by-test (ltb (k .pairStart) p && ltb p (k .pairEnd)) (λ h. rw h i) (λ h. rw h (omega arith))
+
+  pub cost-few : cost p k ≤ length (k .list)
+  unfolding cost
+  cost-few = let i = looks-few p (k .list) in by-test (ltb (k .pairStart) p && ltb p (k .pairEnd)) (λ h. rw h i) (λ h. rw h (omega arith))
+
+-- THE KEYS OF A PAGE, with m of them to go: none; one that is greater than p, which ends them; one that is not
+module _ (w : List ℕ) (p : ℕ) (ws : List ℕ) where
+  pub lists-none : (i m : ℕ) → m ≡ 0 → listsFrom w p ws i m ≡ []
+  unfolding kidsFrom findKids
+  lists-none i m e = rw e
+
+  pub lists-looked-none : (i m : ℕ) → m ≡ 0 → listsLookedFrom w p ws i m ≡ 0
+  unfolding kidsFrom stepsKids
+  lists-looked-none i m e = rw e
+
+  module _ (i m l : ℕ) (e : m ≡ suc l) where
+    pub lists-last : p < getD ws (keyWord i) 0 → listsFrom w p ws i m ≡ run p (keyAt w ws i)
+    unfolding kidsFrom findKids
+    lists-last h = rw (e, lt-yes p (getD ws (keyWord i) 0) h) (append-nil (run p (keyAt w ws i)))
+
+    pub lists-looked-last : p < getD ws (keyWord i) 0 → listsLookedFrom w p ws i m ≡ cost p (keyAt w ws i)
+    unfolding kidsFrom stepsKids
+    lists-looked-last h = rw (e, lt-yes p (getD ws (keyWord i) 0) h) (omega arith)
+
+    pub lists-more : getD ws (keyWord i) 0 ≤ p → listsFrom w p ws i m ≡ run p (keyAt w ws i) ++ listsFrom w p ws (suc i) l
+    unfolding kidsFrom findKids
+    lists-more h = rw (e, lt-no p (getD ws (keyWord i) 0) h)
+
+    pub lists-looked-more : getD ws (keyWord i) 0 ≤ p → listsLookedFrom w p ws i m ≡ cost p (keyAt w ws i) + listsLookedFrom w p ws (suc i) l
+    unfolding kidsFrom stepsKids
+    lists-looked-more h = rw (e, lt-no p (getD ws (keyWord i) 0) h)
+
+-- THE ENTRIES OF A LEAF: one entry, in a list, not holding p, or holding it
+module _ (p : ℕ) (e : Entry) where
+  pub entry-listed : (e .flag ≡ 0 → ⊥) → entriesMet p (e ∷ []) ≡ []
+  unfolding filter holdsFree
+  entry-listed h = rw (eq-no (e .flag) 0 h)
+
+  pub entry-beside : holds p (e .region) ≡ false → entriesMet p (e ∷ []) ≡ []
+  unfolding filter holdsFree
+  entry-beside h = by-test (eqb (e .flag) 0) (λ f. rw (f, h)) (λ f. rw f)
+
+  pub entry-met : e .flag ≡ 0 → holds p (e .region) ≡ true → entriesMet p (e ∷ []) ≡ e .region ∷ []
+  unfolding filter holdsFree
+  entry-met f h = rw (eq-yes (e .flag) 0 f, h)
+
+  pub entry-few : length (entriesMet p (e ∷ [])) ≤ 1
+  unfolding filter
+  entry-few = by-test (holdsFree p e) (λ h. rw h (omega arith)) (λ h. rw h (omega arith))
+
+module _ (p : ℕ) (ws : List ℕ) where
+  pub own-none : (i m : ℕ) → m ≡ 0 → ownFrom p ws i m ≡ []
+  unfolding entriesFrom filter
+  own-none i m e = rw e
+
+  pub own-more : (i m l : ℕ) → m ≡ suc l → ownFrom p ws i m ≡ entriesMet p (entryAt ws i ∷ []) ++ ownFrom p ws (suc i) l
+  unfolding entriesFrom
+  own-more i m l e =
+      rw e (ap (map regionOf) (filter-append (holdsFree p) (entryAt ws i ∷ []) (entriesFrom ws (suc i) l))
+      ∙ map-append regionOf (filter (holdsFree p) (entryAt ws i ∷ [])) (filter (holdsFree p) (entriesFrom ws (suc i) l)))

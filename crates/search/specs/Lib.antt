@@ -1,3 +1,0 @@
-pub mod Tasks
-pub mod Tallies
-pub mod Parts

@@ -1,0 +1,3 @@
+pub mod ByTurns
+pub mod Handed
+pub mod Turned
