@@ -8,7 +8,7 @@ use lib.ListN.{length, take, drop, replicate}
 use borrow.Author.Tests.{eq-eqb, ne-eqb}
 use Rattle.words.specs.Lists.{firstNo}
 use Rattle.regions.specs.Numbers.{unless, DESK}
-use Rattle.regions.specs.Flat.{kindOf}
+use Rattle.flat.specs.Numbers.{kindOf}
 use Rattle.regions.specs.Desk.{closed, seatWord, openDeskNo, part, partNo}
 use Rattle.regions.specs.declared.Kind.{Kind}
 use Rattle.regions.specs.declared.Seat.{Seat}

@@ -7,7 +7,7 @@ use mathlib.Core.List.{List, map}
 use lib.ListN.{take, drop, replicate}
 use denote.Ref.{RefT, ptr, now}
 use Rattle.words.specs.Lists.{some}
-use Rattle.regions.specs.Flat.{kindOf}
+use Rattle.flat.specs.Numbers.{kindOf}
 use Rattle.regions.specs.Numbers.{unless}
 use Rattle.regions.specs.Desk.{closed, seatWord}
 use Rattle.regions.specs.declared.Region.{Region}

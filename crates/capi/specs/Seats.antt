@@ -6,7 +6,7 @@ use mathlib.Core.List.{List, map}
 use lib.ListN.{length, take, drop}
 use Rattle.regions.specs.Numbers.{unless}
 use Rattle.regions.specs.Desk.{seatWord}
-use Rattle.regions.specs.Flat.{kindOf}
+use Rattle.flat.specs.Numbers.{kindOf}
 use Rattle.regions.specs.declared.Seat.{Seat}
 use Rattle.desk.specs.Promises.{OpensDesk, OpensSeat, ClosesSeat, Rounds, Parts, PartNumber}
 use Rattle.flat.specs.declared.FlatSeat.{FlatSeat}

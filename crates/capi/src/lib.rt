@@ -4,7 +4,7 @@ ghost use Rattle.index.specs.Opening.{OpensSet};
 ghost use Rattle.index.specs.Changes.{Saves, Deletes};
 ghost use Rattle.queries.specs.Searches.{FindsAncestors, FindsDescendants, FindsChildren};
 ghost use Rattle.queries.specs.Joins.{JoinsSets};
-ghost use Rattle.regions.specs.Flat.{kindOf};
+ghost use Rattle.flat.specs.Numbers.{kindOf};
 ghost use Rattle.capi.specs.Border.{region, TellsParent};
 ghost use Rattle.capi.specs.Seats.{OpensFlatDesk, OpensFlatSeat, ClosesFlatSeat, RoundsFlat, PartsFlat};
 use flat::FlatDesk;
@@ -190,7 +190,7 @@ pub extern "C" fn sasnuvarth_join(
 ) -> JoinAnswer
     ensures { λ r. ⌜ JoinsSets (now (outer .entry)) (now (inner .entry)) account (kindOf kind) (now (out .entry)) (r .number) (r .total) (now (out .exit)) ⌝ }
 {
-    let j = queries::join_sets(outer, inner, account, regions::kind_of(kind), out);
+    let j = queries::join_sets(outer, inner, account, flat::kind_of(kind), out);
     JoinAnswer {
         number: j.number,
         total: j.total,
@@ -247,7 +247,7 @@ pub extern "C" fn sasnuvarth_open_seat(
 {
     let given = desk.seats;
     let seats = flat::seats_of(given);
-    let k = regions::kind_of(kind);
+    let k = flat::kind_of(kind);
     let s = desk::open_seat_by_value(seats, i, account, k, limit);
     let after = s.seats;
     let left = flat::desk_left(s.number, desk, after);

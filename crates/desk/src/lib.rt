@@ -98,12 +98,10 @@ pub fn part<'a>(desk: &[Seat], buffer: &'a [u32], i: u32, count: u32) -> &'a [u3
 fn images_valid(outer: &[u32], inner: &[u32]) -> bool
     ensures { λ r. ⌜ r ≡ (valid (now (outer .entry)) && valid (now (inner .entry))) ⌝ }
 {
-    let o = audit::audit(outer);
-    if !o.ok {
+    if !audit::is_valid(outer) {
         return false;
     }
-    let i = audit::audit(inner);
-    i.ok
+    audit::is_valid(inner)
 }
 
 // A round's answer.

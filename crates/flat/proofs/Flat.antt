@@ -5,7 +5,6 @@ use mathlib.Core.Path.{_≡_, sym, ap, _∙_, refl}
 use mathlib.Core.List.{List, [], _∷_, map}
 use lib.ListN.{length, getD}
 use native.Mathlib.Omega.{arith}
-use Rattle.regions.specs.Flat.{kindNumber, kindOf, markOf, seatOfNumbers}
 use Rattle.regions.specs.declared.Mark.{Mark}
 use Rattle.regions.specs.declared.Open.{Open}
 use Rattle.regions.specs.Desk.{openAt}
@@ -15,6 +14,7 @@ use Rattle.regions.specs.declared.Mark.the-variants.{Fresh, Last}
 use Rattle.regions.specs.declared.State.{State}
 use Rattle.regions.specs.declared.State.the-variants.{Closed, Open as Opened}
 use Rattle.regions.specs.declared.Seat.{Seat}
+use Rattle.flat.specs.Numbers.{kindNumber, kindOf, markOf, seatOfNumbers}
 use Rattle.flat.specs.Seats.{flatMarked, flatOpen, seatOf, flatState, flatSeat}
 
 pub flat-at : (o : Open) (k : ℕ) (m : Mark) → k ≡ kindNumber (o .kind) → o .mark ≡ m → flatMarked (o .account) k (o .limit) m ≡ flatOpen o

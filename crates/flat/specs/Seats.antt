@@ -1,13 +1,13 @@
 -- A seat as seven numbers: what they mean, and how a seat is told in them.
 -- Assumes nothing.
 use Prim.Native.Nat.{ℕ}
-use Rattle.regions.specs.Flat.{kindNumber, seatOfNumbers}
 use Rattle.regions.specs.declared.Mark.{Mark}
 use Rattle.regions.specs.declared.Mark.the-variants.{Fresh, Last}
 use Rattle.regions.specs.declared.Open.{Open}
 use Rattle.regions.specs.declared.State.{State}
 use Rattle.regions.specs.declared.State.the-variants.{Closed, Open as Opened}
 use Rattle.regions.specs.declared.Seat.{Seat}
+use Rattle.flat.specs.Numbers.{kindNumber, seatOfNumbers}
 use Rattle.flat.specs.declared.FlatSeat.{FlatSeat}
 
 -- WHAT SEVEN NUMBERS MEAN

@@ -2,11 +2,69 @@
 ghost use mathlib.Core.Path.{_≡_};
 ghost use mathlib.Core.List.{map};
 ghost use Rattle.regions.specs.Numbers.{unless};
+ghost use Rattle.flat.specs.Numbers.{kindOf, kindNumber, markOf, seatOfNumbers};
 ghost use Rattle.flat.specs.Seats.{seatOf, flatSeat, flatOpen};
+use regions::Kind;
 use regions::Mark;
 use regions::Open;
 use regions::Seat;
 use regions::State;
+
+// For whoever has only numbers to hand. A join's kind: 0 is by ancestor, all else by parent.
+pub fn kind_of(number: u32) -> Kind
+    ensures { λ r. ⌜ r ≡ kindOf number ⌝ }
+{
+    if number == 0 {
+        return Kind::Ancestor;
+    }
+    Kind::Parent
+}
+
+pub fn kind_number(kind: Kind) -> u32
+    ensures { λ r. ⌜ r ≡ kindNumber kind ⌝ }
+{
+    match kind {
+        Kind::Ancestor => 0,
+        Kind::Parent => 1,
+    }
+}
+
+// A mark: none where marked is 0, and then a and d mean nothing.
+fn mark_of(marked: u32, a: u32, d: u32) -> Mark
+    ensures { λ r. ⌜ r ≡ markOf marked a d ⌝ }
+{
+    if marked == 0 {
+        return Mark::Fresh;
+    }
+    Mark::Last(a, d)
+}
+
+// The seat that seven numbers mean, whatever they are: none of the desk's ranges is asked for.
+pub fn seat_of_numbers(
+    opened: u32,
+    account: u32,
+    kind: u32,
+    limit: u32,
+    marked: u32,
+    a: u32,
+    d: u32,
+) -> Seat
+    ensures { λ r. ⌜ r ≡ seatOfNumbers opened account kind limit marked a d ⌝ }
+{
+    if opened == 0 {
+        return regions::closed_seat();
+    }
+    let of = kind_of(kind);
+    let mark = mark_of(marked, a, d);
+    let o = Open {
+        account: account,
+        kind: of,
+        limit: limit,
+        mark: mark,
+    };
+    let st = State::Open(o);
+    Seat { state: st }
+}
 
 // A seat in numbers. Closed where opened is 0, and then the others mean nothing; without a mark where marked is 0, and then a and d mean nothing.
 #[repr(C)]
@@ -29,7 +87,7 @@ pub struct FlatDesk {
 fn seat_of(f: FlatSeat) -> Seat
     ensures { λ r. ⌜ r ≡ seatOf f ⌝ }
 {
-    regions::seat_of_numbers(f.opened, f.account, f.kind, f.limit, f.marked, f.a, f.d)
+    seat_of_numbers(f.opened, f.account, f.kind, f.limit, f.marked, f.a, f.d)
 }
 
 pub fn seats_of(f: [FlatSeat; regions::SEAT_COUNT]) -> [Seat; regions::SEAT_COUNT]
@@ -50,7 +108,7 @@ fn flat_open(o: Open) -> FlatSeat
     ensures { λ r. ⌜ r ≡ flatOpen o ⌝ }
 {
     let k = o.kind;
-    let kind = regions::kind_number(k);
+    let kind = kind_number(k);
     let m = o.mark;
     match m {
         Mark::Fresh => FlatSeat {

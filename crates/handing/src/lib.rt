@@ -23,7 +23,7 @@ pub fn hand_on(img: &mut [u32], ws: Page, j: usize) -> Handed
     requires { ⌜ (length (now img) ≡ imageWords) × (fillOf ws ≤ 9) × Leaving (now img) ws j ⌝ }
     ensures { λ r. ⌜ ((s : Leaving (now (img .entry)) ws j) → HandedOn (now (img .entry)) (now (img .exit)) ws j s r) ⌝ }
 {
-    let key = newpages::key_in(ws, j);
+    let key = pagewords::key_in(ws, j);
     let without = newpages::inner_without(ws, j);
     if j + 1 == words::wide(ws[1]) {
         return Handed {
@@ -31,7 +31,7 @@ pub fn hand_on(img: &mut [u32], ws: Page, j: usize) -> Handed
             page: without,
         };
     }
-    let next = newpages::key_in(ws, j + 1);
+    let next = pagewords::key_in(ws, j + 1);
     let lifted = records::lift(img, key, next, next.key);
     let rest = lifted.from;
     let took = lifted.to;
@@ -67,7 +67,7 @@ pub fn clear_flags(img: &[u32], leaf: Page, head: u32) -> Page
     let mut ws = leaf;
     let mut i: usize = 0;
     while i < n {
-        if in_list(img, head, newpages::start_in(ws, i)) {
+        if in_list(img, head, pagewords::start_in(ws, i)) {
             let cleared = newpages::set_flag(ws, i, 0);
             ws = cleared;
         }
@@ -86,7 +86,7 @@ pub fn sink(img: &mut [u32], ws: Page, k: KeyWords) -> Handed
     let mut rest = k;
     let mut i: usize = 0;
     while i < n {
-        let to = newpages::key_in(page, i);
+        let to = pagewords::key_in(page, i);
         let lifted = records::lift(img, rest, to, to.key);
         let took = lifted.to;
         let keyed = newpages::set_key(page, i, took);

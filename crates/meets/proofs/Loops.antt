@@ -1,7 +1,7 @@
--- A turn and each way out of the loops that search a list of records, a page's keys, a leaf's entries, and of a key and an entry.
+-- A turn and each way out of the loops along a list of records and over a page's keys.
 -- Assumes nothing.
 use Prim.Native.Nat.{ℕ, suc, _+_, _-_, _*_, _≤_, _<_}
-use mathlib.Core.Path.{_≡_, refl, sym, ap, _∙_}
+use mathlib.Core.Path.{_≡_}
 use mathlib.Core.Bool.{true, false}
 use mathlib.Core.List.{List, [], _∷_}
 use lib.ListN.{getD}
@@ -9,15 +9,14 @@ use native.Mathlib.Omega.{arith}
 use native.Mathlib.Numerals.{add-one}
 use Rattle.regions.specs.Positions.{holds}
 use Rattle.regions.specs.declared.Region.{Region}
-use Rattle.pages.specs.Layout.{pageOf, fillOf, recordOf, recordNext, regionIn, entryWord, flagIn, keyWord}
+use Rattle.pages.specs.Layout.{pageOf, fillOf, recordOf, recordNext, regionIn, keyWord}
 use Rattle.xrtree.specs.Search.{run, cost}
-use Rattle.image.specs.Read.{entryAt}
 use Rattle.tally.specs.declared.Task.{Task}
 use Rattle.tally.specs.declared.Tally.{Tally}
 use Rattle.tally.specs.Tallies.{Tallied, stepped}
-use Rattle.meets.specs.PageMet.{heldFrom, lookedFrom, keyIn, listsFrom, listsLookedFrom, listsMet, listsLooked, entriesMet, ownFrom, leafMet}
-use Rattle.meets.proofs.Tallies.{Leads, leads-all, tallied-none, tallied-step, tallied-then, leads-on, leads-last, leads-done}
-use Rattle.meets.proofs.PageMet.{records-few, held-ended, looked-ended, held-stop, looked-stop, held-more, looked-more, held-none, looked-none, run-low, run-high, run-list, cost-low, cost-high, cost-list, run-few, cost-few, lists-none, lists-looked-none, lists-last, lists-looked-last, lists-more, lists-looked-more, entry-listed, entry-beside, entry-met, entry-few, own-none, own-more}
+use Rattle.tally.proofs.Tallies.{Leads, leads-all, tallied-none, tallied-step, tallied-then, leads-on, leads-last, leads-done}
+use Rattle.meets.specs.PageMet.{heldFrom, lookedFrom, keyIn, listsFrom, listsLookedFrom, listsMet, listsLooked}
+use Rattle.meets.proofs.PageMet.{records-few, held-ended, looked-ended, held-stop, looked-stop, held-more, looked-more, held-none, looked-none, run-low, run-high, run-list, cost-low, cost-high, cost-list, run-few, cost-few, lists-none, lists-looked-none, lists-last, lists-looked-last, lists-more, lists-looked-more}
 
 -- A LIST: n records were looked at, and q is the next
 abbrev pub Walking : Task → List ℕ → Tally → List ℕ → ℕ → ℕ → List ℕ → Tally → ℕ → ℕ → Type 0
@@ -104,36 +103,3 @@ module _ {task : Task} {out₀ : List ℕ} {t₀ : Tally} (w : List ℕ) (page p
         (rw (add-one i) (lists-more w p (pageOf w page) i (n - i) (n - suc i) m d))
         (rw (add-one i) (lists-looked-more w p (pageOf w page) i (n - i) (n - suc i) m d))
         (omega (arith, run-few p (keyIn w page i))) (omega (arith, cost-few p (keyIn w page i)))
-
--- AN ENTRY: in a list, beside p, or met
-abbrev pub EntryMet : Task → List ℕ → Tally → List ℕ → ℕ → ℕ → ℕ → List ℕ → Tally → Type 0
-EntryMet task out t w page i p out′ t′ = Tallied task out t (entriesMet p (entryAt (pageOf w page) i ∷ [])) 0 out′ t′
-
-module _ {task : Task} {out : List ℕ} {t : Tally} (w : List ℕ) (page i p : ℕ) where
-  pub entry-in-list : (f : ℕ) → f ≡ flagIn (pageOf w page) i → (f ≡ 0 → ⊥) → EntryMet task out t w page i p out t
-  entry-in-list f e h =
-      let g : (flagIn (pageOf w page) i ≡ 0 → ⊥) = (λ z. h (e ∙ z)) in
-      rw (entry-listed p (entryAt (pageOf w page) i) g) tallied-none
-
-  module _ (a : Region) (d : a ≡ regionIn (pageOf w page) (entryWord i)) where
-    pub entry-outside : holds p a ≡ false → EntryMet task out t w page i p out t
-    entry-outside h = rw (entry-beside p (entryAt (pageOf w page) i) (ap (holds p) (sym d) ∙ h)) tallied-none
-
-    pub entry-visited : (f : ℕ) (out′ : List ℕ) (t′ : Tally) → f ≡ flagIn (pageOf w page) i → f ≡ 0 → holds p a ≡ true → Tallied task out t (a ∷ []) 0 out′ t′ → EntryMet task out t w page i p out′ t′
-    entry-visited f out′ t′ e z h r = rw (entry-met p (entryAt (pageOf w page) i) (sym e ∙ z) (ap (holds p) (sym d) ∙ h), ← d) r
-
--- THE ENTRIES OF A LEAF: n of them, entry i comes next
-abbrev pub Owning : Task → List ℕ → Tally → List ℕ → ℕ → ℕ → List ℕ → Tally → ℕ → ℕ → Type 0
-Owning task out₀ t₀ w page p out t n i = Leads task out₀ t₀ (leafMet w p page) 0 out t (ownFrom p (pageOf w page) i (n - i)) 0 i
-
-pub leaf-start : {task : Task} {out : List ℕ} {t : Tally} (w : List ℕ) (page p n : ℕ) → n ≡ fillOf (pageOf w page) → Owning task out t w page p out t n 0
-leaf-start w page p n e = let f : n - 0 ≡ fillOf (pageOf w page) = omega arith in rw f leads-all
-
-module _ {task : Task} {out₀ : List ℕ} {t₀ : Tally} (w : List ℕ) (page p : ℕ) {out : List ℕ} {t : Tally} (n i : ℕ) (l : Owning task out₀ t₀ w page p out t n i) where
-  pub leaf-done : n ≤ i → Tallied task out₀ t₀ (leafMet w p page) 0 out t
-  leaf-done h = let e : n - i ≡ 0 = omega arith in leads-done l (own-none p (pageOf w page) i (n - i) e) refl
-
-  pub leaf-on : (out₁ : List ℕ) (t₁ : Tally) → i < n → EntryMet task out t w page i p out₁ t₁ → Owning task out₀ t₀ w page p out₁ t₁ n (i + 1)
-  leaf-on out₁ t₁ h r =
-      let m : n - i ≡ suc (n - suc i) = omega arith in
-      leads-on l r (rw (add-one i) (own-more p (pageOf w page) i (n - i) (n - suc i) m)) (omega arith) (omega (arith, entry-few p (entryAt (pageOf w page) i))) (omega arith)

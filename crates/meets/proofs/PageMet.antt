@@ -1,22 +1,21 @@
--- What a page of the path adds to what a search has met, turn by turn.
+-- What a page's lists add to what a search has met, turn by turn.
 -- Assumes nothing.
 use Prim.Native.Nat.{ℕ, zero, suc, _+_, _≤_, _<_}
-use mathlib.Core.Path.{_≡_, refl, ap, _∙_}
+use mathlib.Core.Path.{_≡_, refl}
 use mathlib.Core.Bool.{true, false, _&&_}
-use mathlib.Core.List.{List, [], _∷_, _++_, map, append-nil}
+use mathlib.Core.List.{List, [], _∷_, _++_, append-nil}
 use lib.Dec.{ltb, eqb}
 use lib.ListN.{length, getD}
 use native.Mathlib.Omega.{arith}
-use Rattle.words.specs.Lists.{filter, takeWhile}
+use Rattle.words.specs.Lists.{takeWhile}
 use Rattle.words.proofs.Tests.{by-test, eq-yes, eq-no, lt-yes, lt-no}
-use Rattle.words.proofs.Listed.{filter-append, map-append}
 use Rattle.regions.specs.Positions.{holds}
 use Rattle.regions.specs.declared.Region.{Region}
 use Rattle.pages.specs.Layout.{recordOf, recordNext, regionIn, keyWord}
-use Rattle.xrtree.specs.Tree.{Entry, Key, regionOf}
-use Rattle.xrtree.specs.Search.{run, looks, cost, findKids, stepsKids, holdsFree}
-use Rattle.image.specs.Read.{entryAt, entriesFrom, chain, recordRegion, keyAt, kidsFrom}
-use Rattle.meets.specs.PageMet.{recordsFrom, heldFrom, lookedFrom, listsFrom, listsLookedFrom, entriesMet, ownFrom}
+use Rattle.xrtree.specs.Tree.{Key}
+use Rattle.xrtree.specs.Search.{run, looks, cost, findKids, stepsKids}
+use Rattle.image.specs.Read.{chain, recordRegion, keyAt, kidsFrom}
+use Rattle.meets.specs.PageMet.{recordsFrom, heldFrom, lookedFrom, listsFrom, listsLookedFrom}
 
 -- A LIST OF RECORDS, with n of them to go
 module _ (w : List ℕ) where
@@ -142,32 +141,3 @@ module _ (w : List ℕ) (p : ℕ) (ws : List ℕ) where
     pub lists-looked-more : getD ws (keyWord i) 0 ≤ p → listsLookedFrom w p ws i m ≡ cost p (keyAt w ws i) + listsLookedFrom w p ws (suc i) l
     unfolding kidsFrom stepsKids
     lists-looked-more h = rw (e, lt-no p (getD ws (keyWord i) 0) h)
-
--- THE ENTRIES OF A LEAF: one entry, in a list, not holding p, or holding it
-module _ (p : ℕ) (e : Entry) where
-  pub entry-listed : (e .flag ≡ 0 → ⊥) → entriesMet p (e ∷ []) ≡ []
-  unfolding filter holdsFree
-  entry-listed h = rw (eq-no (e .flag) 0 h)
-
-  pub entry-beside : holds p (e .region) ≡ false → entriesMet p (e ∷ []) ≡ []
-  unfolding filter holdsFree
-  entry-beside h = by-test (eqb (e .flag) 0) (λ f. rw (f, h)) (λ f. rw f)
-
-  pub entry-met : e .flag ≡ 0 → holds p (e .region) ≡ true → entriesMet p (e ∷ []) ≡ e .region ∷ []
-  unfolding filter holdsFree
-  entry-met f h = rw (eq-yes (e .flag) 0 f, h)
-
-  pub entry-few : length (entriesMet p (e ∷ [])) ≤ 1
-  unfolding filter
-  entry-few = by-test (holdsFree p e) (λ h. rw h (omega arith)) (λ h. rw h (omega arith))
-
-module _ (p : ℕ) (ws : List ℕ) where
-  pub own-none : (i m : ℕ) → m ≡ 0 → ownFrom p ws i m ≡ []
-  unfolding entriesFrom filter
-  own-none i m e = rw e
-
-  pub own-more : (i m l : ℕ) → m ≡ suc l → ownFrom p ws i m ≡ entriesMet p (entryAt ws i ∷ []) ++ ownFrom p ws (suc i) l
-  unfolding entriesFrom
-  own-more i m l e =
-      rw e (ap (map regionOf) (filter-append (holdsFree p) (entryAt ws i ∷ []) (entriesFrom ws (suc i) l))
-      ∙ map-append regionOf (filter (holdsFree p) (entryAt ws i ∷ [])) (filter (holdsFree p) (entriesFrom ws (suc i) l)))

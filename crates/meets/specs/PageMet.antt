@@ -1,14 +1,14 @@
--- What the parts of a search meet and look at in an image: a list of stab records, the lists of an inner page, a leaf.
+-- What a search meets and looks at on an inner page: a list of stab records, the lists of all its keys.
 -- Assumes nothing.
 use Prim.Native.Nat.{ℕ}
 use mathlib.Core.List.{List, [], map}
-use Rattle.words.specs.Lists.{filter, takeWhile}
+use Rattle.words.specs.Lists.{takeWhile}
 use Rattle.regions.specs.Positions.{holds}
 use Rattle.regions.specs.declared.Region.{Region}
 use Rattle.pages.specs.Layout.{pageOf, fillOf}
-use Rattle.xrtree.specs.Tree.{Entry, Key, regionOf}
-use Rattle.xrtree.specs.Search.{looks, findKids, stepsKids, holdsFree}
-use Rattle.image.specs.Read.{entriesFrom, chain, recordRegion, keyAt, kidsFrom}
+use Rattle.xrtree.specs.Tree.{Key}
+use Rattle.xrtree.specs.Search.{looks, findKids, stepsKids}
+use Rattle.image.specs.Read.{chain, recordRegion, keyAt, kidsFrom}
 
 -- the regions of at most n records from record q on; those from the head that hold p; how many are looked at
 abbrev pub recordsFrom : List ℕ → ℕ → ℕ → List Region
@@ -37,14 +37,3 @@ listsMet w p page = listsFrom w p (pageOf w page) 0 (fillOf (pageOf w page))
 
 abbrev pub listsLooked : List ℕ → ℕ → ℕ → ℕ
 listsLooked w p page = listsLookedFrom w p (pageOf w page) 0 (fillOf (pageOf w page))
-
--- of some entries of a leaf, and of the m from entry i on
-abbrev pub entriesMet : ℕ → List Entry → List Region
-entriesMet p es = map regionOf (filter (holdsFree p) es)
-
-abbrev pub ownFrom : ℕ → List ℕ → ℕ → ℕ → List Region
-ownFrom p ws i m = entriesMet p (entriesFrom ws i m)
-
--- of a whole leaf
-abbrev pub leafMet : List ℕ → ℕ → ℕ → List Region
-leafMet w p page = ownFrom p (pageOf w page) 0 (fillOf (pageOf w page))

@@ -1,11 +1,9 @@
 // What a search meets on one page of its path: the lists of an inner page, as far as their records hold the position, or the entries of a leaf that stand in no list.
-ghost use mathlib.Core.List.{[], _∷_};
 ghost use Prim.Native.Nat.{_<_, _≤_};
 ghost use Rattle.pages.specs.Layout.{pageOf, fillOf};
-ghost use Rattle.image.specs.Read.{entryAt};
 ghost use Rattle.xrtree.specs.Search.{run, cost};
 ghost use Rattle.tally.specs.Tallies.{Tallied, Small};
-ghost use Rattle.meets.specs.PageMet.{heldFrom, lookedFrom, keyIn, listsMet, listsLooked, entriesMet, leafMet};
+ghost use Rattle.meets.specs.PageMet.{heldFrom, lookedFrom, keyIn, listsMet, listsLooked};
 use tally::Tally;
 use tally::Task;
 
@@ -79,46 +77,6 @@ pub fn page_lists(
         if p < pages::key_number(img, page, i) {
             return t;
         }
-        i += 1;
-    }
-    t
-}
-
-// Entry i of a leaf, where it stands in no list (flag 0) and holds p.
-fn own_entry(
-    img: &[u32],
-    page: u32,
-    i: usize,
-    p: u32,
-    task: Task,
-    out: &mut [u32],
-    t: Tally,
-) -> Tally
-    requires { ⌜ i < 9 ⌝ }
-    requires { ⌜ Small 40000 t ⌝ }
-    ensures { λ r. ⌜ Tallied task (now (out .entry)) t (entriesMet p (entryAt (pageOf (now (img .entry)) page) i ∷ [])) 0 (now (out .exit)) r ⌝ }
-{
-    if pages::entry_flag(img, page, i) != 0 {
-        return t;
-    }
-    let a = pages::entry_region(img, page, i);
-    if !regions::holds(p, a) {
-        return t;
-    }
-    tally::visit(task, a, out, t)
-}
-
-// The regions that a leaf holds and no list does.
-pub fn leaf_own(img: &[u32], page: u32, p: u32, task: Task, out: &mut [u32], start: Tally) -> Tally
-    requires { ⌜ fillOf (pageOf (now img) page) ≤ 8 ⌝ }
-    requires { ⌜ Small 30000 start ⌝ }
-    ensures { λ r. ⌜ Tallied task (now (out .entry)) start (leafMet (now (img .entry)) p page) 0 (now (out .exit)) r ⌝ }
-{
-    let n = words::wide(pages::fill(img, page));
-    let mut t = start;
-    let mut i: usize = 0;
-    while i < n {
-        t = own_entry(img, page, i, p, task, out, t);
         i += 1;
     }
     t

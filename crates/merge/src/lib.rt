@@ -27,8 +27,8 @@ pub fn leaves(img: &mut [u32], path: [u32; 4], at: usize, j: usize)
 {
     let q = path[at];
     let page = store::load_page(img, q);
-    let left = newpages::child_in(page, j);
-    let right = newpages::child_in(page, j + 1);
+    let left = pagewords::child_in(page, j);
+    let right = pagewords::child_in(page, j + 1);
     let a = store::load_page(img, left);
     let b = store::load_page(img, right);
     let joined = newpages::leaf_joined(a, b);
@@ -47,8 +47,8 @@ pub fn inners(img: &mut [u32], path: [u32; 4], at: usize, j: usize)
 {
     let q = path[at];
     let page = store::load_page(img, q);
-    let left = newpages::child_in(page, j);
-    let right = newpages::child_in(page, j + 1);
+    let left = pagewords::child_in(page, j);
+    let right = pagewords::child_in(page, j + 1);
     let a = store::load_page(img, left);
     let b = store::load_page(img, right);
     let handed = handing::hand_on(img, page, j);

@@ -12,10 +12,10 @@ fn is_fresh(ws: Page, j: usize, k: u32) -> bool
     requires { ⌜ j < 9 ⌝ }
     ensures { λ t. ⌜ t ≡ freshAt k (entryAt ws j) ⌝ }
 {
-    if newpages::flag_in(ws, j) != 0 {
+    if pagewords::flag_in(ws, j) != 0 {
         return false;
     }
-    regions::stabs(k, newpages::entry_in(ws, j))
+    regions::stabs(k, pagewords::entry_in(ws, j))
 }
 
 // Of the first n entries, those in no list that k stabs come into k's list: from the last to the first, so that each goes in front.
@@ -33,7 +33,7 @@ pub fn gather(img: &mut [u32], leaf: Page, n: usize, k: u32) -> KeyWords
     while j > 0 {
         j -= 1;
         if is_fresh(leaf, j, k) {
-            let r = newpages::entry_in(leaf, j);
+            let r = pagewords::entry_in(leaf, j);
             key = records::push(img, key, r);
         }
     }
@@ -48,7 +48,7 @@ pub fn flagged(leaf: Page, n: usize, k: u32) -> Page
     let mut ws = leaf;
     let mut j: usize = 0;
     while j < n {
-        let r = newpages::entry_in(leaf, j);
+        let r = pagewords::entry_in(leaf, j);
         if regions::stabs(k, r) {
             let s = newpages::set_flag(ws, j, 1);
             ws = s;

@@ -10,7 +10,7 @@ use Rattle.words.proofs.Written.{sets-below}
 use Rattle.pages.specs.Layout.{markOf, fillOf, nextOf, keyWord, childWord, childIn}
 use Rattle.pages.specs.declared.KeyWords.{KeyWords}
 use Rattle.image.specs.Decode.{keyWordsAt, keysFrom, childrenFrom}
-use Rattle.newpages.specs.Words.{copiedIn, keyList, headedBy}
+use Rattle.pagewords.specs.Words.{copiedIn, headedBy, keyList}
 use Rattle.newpages.specs.Pages.{putIn, takenOut, putFor, keysOf, childrenOf, IsInner}
 use Rattle.newpages.proofs.Runs.{Seg, seg-self, seg-below, seg-above, seg-in, copy-long, copy-below, copy-above, copy-in, head-above, head-words}
 use Rattle.newpages.proofs.Items.{upFrom, items-same, items-in, items-out, items-for, items-left, items-right, items-joined, items-between}

@@ -10,7 +10,7 @@ use Rattle.regions.specs.declared.Region.{Region}
 use Rattle.xrtree.specs.Tree.{Entry}
 use Rattle.pages.specs.Layout.{markOf, fillOf, nextOf, entryWord}
 use Rattle.image.specs.Read.{entryAt, entriesFrom}
-use Rattle.newpages.specs.Words.{copiedIn, entryWords, headedBy}
+use Rattle.pagewords.specs.Words.{copiedIn, headedBy, entryWords}
 use Rattle.newpages.specs.Pages.{putIn, takenOut, putFor, newEntry, flaggedEntry, entriesOf, spareIn, sparesFrom, sparesOf, IsLeaf}
 use Rattle.newpages.proofs.Runs.{Seg, seg-self, seg-below, seg-in, copy-long, copy-below, copy-in, head-above, head-words}
 use Rattle.newpages.proofs.Items.{upFrom, up-same, items-in, items-out, items-for, items-left, items-right, items-joined}

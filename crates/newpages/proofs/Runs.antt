@@ -1,14 +1,14 @@
--- Runs of words: which words of a page are those of another, after runs were written; the turn of the loop that copies a run.
+-- Runs of words one behind the other in a page.
 -- Assumes nothing.
-use Prim.Native.Nat.{ℕ, suc, _+_, _-_, _<_, _≤_}
+use Prim.Native.Nat.{ℕ, _+_, _-_, _<_, _≤_}
 use mathlib.Core.Path.{_≡_, refl, ap, _∙_}
 use mathlib.Core.List.{List, [], _∷_}
-use lib.ListN.{length, getD, set, take, drop, length-take, length-drop}
-use lib.Seq.{sets, length-sets, getD-take, getD-drop, drop-cons}
+use lib.ListN.{length, getD, take, drop, length-take, length-drop}
+use lib.Seq.{sets, length-sets, getD-take, getD-drop}
 use native.Mathlib.Omega.{arith}
 use Rattle.words.proofs.Written.{sets-below, sets-above, sets-in}
 use Rattle.pages.specs.Layout.{markOf, fillOf, nextOf}
-use Rattle.newpages.specs.Words.{copiedIn, headedBy}
+use Rattle.pagewords.specs.Words.{copiedIn, headedBy}
 
 -- m words of u, from word s on, are those of v from word t on
 pub record Seg (u : List ℕ) (s : ℕ) (v : List ℕ) (t m : ℕ) : Type 0 where
@@ -73,24 +73,3 @@ module _ (u : List ℕ) (mark fill next : ℕ) where
     where
       word : (k : ℕ) → k < 3 → getD (sets u 0 (mark ∷ fill ∷ next ∷ [])) (0 + k) 0 ≡ getD (mark ∷ fill ∷ next ∷ []) k 0
       word k l = sets-in (mark ∷ fill ∷ next ∷ []) u 0 k 0 l (omega arith)
-
--- THE LOOP: what is left to copy gives the whole
-pub copy-start : (u v : List ℕ) (a b n : ℕ) → copiedIn u (a + 0) v (b + 0) (n - 0) ≡ copiedIn u a v b n
-copy-start u v a b n =
-    let e : a + 0 ≡ a = omega arith in
-    let f : b + 0 ≡ b = omega arith in
-    let g : n - 0 ≡ n = omega arith in
-    rw (e, f, g)
-
-pub copy-turn : (u v : List ℕ) (a b n i x : ℕ) → i < n → b + n ≤ length v → x ≡ getD v (b + i) 0
-    → copiedIn (set u (a + i) x) (a + (i + 1)) v (b + (i + 1)) (n - (i + 1)) ≡ copiedIn u (a + i) v (b + i) (n - i)
-unfolding copiedIn
-copy-turn u v a b n i x h l e =
-    let f : a + (i + 1) ≡ suc (a + i) = omega arith in
-    let g : b + (i + 1) ≡ suc (b + i) = omega arith in
-    let k : n - i ≡ suc (n - (i + 1)) = omega arith in
-    rw (f, g, k, e, drop-cons v (b + i) 0 (omega arith))
-
-pub copy-done : (u v : List ℕ) (a b n i : ℕ) → n ≤ i → copiedIn u (a + i) v (b + i) (n - i) ≡ u
-unfolding copiedIn
-copy-done u v a b n i h = let e : n - i ≡ 0 = omega arith in rw e

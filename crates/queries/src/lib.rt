@@ -68,10 +68,10 @@ pub fn find_parent(img: &[u32], account: u32, p: u32, level: u32) -> Parent
     ensures { λ r. ⌜ FindsParent (now (img .entry)) account p level r ⌝ }
 {
     if !audit::is_valid(img) {
-        return Parent::Refused(1);
+        return Parent::Refused(regions::IMAGE);
     }
     if regions::foreign(account, p) {
-        return Parent::Refused(3);
+        return Parent::Refused(regions::ACCOUNT);
     }
     let found = search::parent(img, p, level);
     let Found::At(r) = found else {

@@ -19,13 +19,13 @@ pub fn raise(img: &mut [u32], page: Page, c: usize) -> Risen
     requires { ⌜ ((h : ℕ) × RaiseReady (now img) page c h) ⌝ }
     ensures { λ t. ⌜ ((h : ℕ) (g : RaiseReady (now (img .entry)) page c h) → Raised (now (img .entry)) (now (img .exit)) page c h g t) ⌝ }
 {
-    let mut key = newpages::key_in(page, c);
+    let mut key = pagewords::key_in(page, c);
     let x = key.key;
     let mut ws = page;
     let mut j = c;
     while j > 0 {
         j -= 1;
-        let from = newpages::key_in(page, j);
+        let from = pagewords::key_in(page, j);
         let l = records::lift(img, from, key, x);
         let gave = l.from;
         let s = newpages::set_key(ws, j, gave);
@@ -42,7 +42,7 @@ pub fn enter_key(img: &mut [u32], page: Page, i: usize, k: KeyWords, r: u32) -> 
     ensures { λ t. ⌜ ((h : ℕ) (g : EnterReady (now (img .entry)) page i k h) → Entered (now (img .entry)) (now (img .exit)) page i k r h g t) ⌝ }
 {
     if i < words::wide(page[1]) {
-        let next = newpages::key_in(page, i);
+        let next = pagewords::key_in(page, i);
         let l = records::lift(img, next, k, k.key);
         let gave = l.from;
         let took = l.to;

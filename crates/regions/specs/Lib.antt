@@ -4,6 +4,5 @@ pub mod Sets
 pub mod Numbers
 pub mod Calls
 pub mod Desk
-pub mod Flat
 pub mod Sound
 pub mod Bench

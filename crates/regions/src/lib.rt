@@ -6,7 +6,6 @@ ghost use Rattle.regions.specs.Limits.{mostRegions};
 ghost use Rattle.regions.specs.Positions.{document, account, wellBound, wellFormed, endsBefore, contains, crosses, stabs, holds, inside, isAbove, isBelow};
 ghost use Rattle.regions.specs.Calls.{foreign};
 ghost use Rattle.regions.specs.Desk.{closed};
-ghost use Rattle.regions.specs.Flat.{kindOf, kindNumber, markOf, seatOfNumbers};
 
 // REFUSALS, by their number (document 01's table). A call that is done answers DONE.
 pub const DONE: u32 = 0;
@@ -39,14 +38,17 @@ pub const FORM: u32 = 12;
 pub const ACCOUNT_COUNT: usize = 16;
 
 pub const LAST_ACCOUNT: u32 = 15;
+
 // the positions of a document, and of an account,
 pub const DOCUMENT_POSITIONS: u32 = 65536;
 
 pub const ACCOUNT_POSITIONS: u32 = 268435456;
 
 pub const LAST_LEVEL: u32 = 255;
+
 // the regions of a set at most, which its shares may come to together,
 pub const MOST_REGIONS: u32 = 500;
+
 // seats, the limit of who asks for none, the most pairs a round,
 pub const SEAT_COUNT: usize = 8;
 
@@ -55,6 +57,7 @@ pub const LAST_SEAT: u32 = 7;
 pub const HOUSE_LIMIT: u32 = 32;
 
 pub const MOST_A_ROUND: u32 = 32;
+
 // and what things take in words: a region, a pair, a seat's part of the round buffer, all of it.
 pub const REGION_WIDTH: usize = 4;
 
@@ -245,61 +248,5 @@ pub fn closed_seat() -> Seat
     ensures { λ r. ⌜ r ≡ closed ⌝ }
 {
     let st = State::Closed;
-    Seat { state: st }
-}
-
-// IN PLAIN NUMBERS, for whoever has only numbers to hand. A join's kind: 0 is by ancestor, all else by parent.
-pub fn kind_of(number: u32) -> Kind
-    ensures { λ r. ⌜ r ≡ kindOf number ⌝ }
-{
-    if number == 0 {
-        return Kind::Ancestor;
-    }
-    Kind::Parent
-}
-
-pub fn kind_number(kind: Kind) -> u32
-    ensures { λ r. ⌜ r ≡ kindNumber kind ⌝ }
-{
-    match kind {
-        Kind::Ancestor => 0,
-        Kind::Parent => 1,
-    }
-}
-
-// A mark: none where marked is 0, and then a and d mean nothing.
-fn mark_of(marked: u32, a: u32, d: u32) -> Mark
-    ensures { λ r. ⌜ r ≡ markOf marked a d ⌝ }
-{
-    if marked == 0 {
-        return Mark::Fresh;
-    }
-    Mark::Last(a, d)
-}
-
-// The seat that seven numbers mean, whatever they are: none of the desk's ranges is asked for.
-pub fn seat_of_numbers(
-    opened: u32,
-    account: u32,
-    kind: u32,
-    limit: u32,
-    marked: u32,
-    a: u32,
-    d: u32,
-) -> Seat
-    ensures { λ r. ⌜ r ≡ seatOfNumbers opened account kind limit marked a d ⌝ }
-{
-    if opened == 0 {
-        return closed_seat();
-    }
-    let of = kind_of(kind);
-    let mark = mark_of(marked, a, d);
-    let o = Open {
-        account: account,
-        kind: of,
-        limit: limit,
-        mark: mark,
-    };
-    let st = State::Open(o);
     Seat { state: st }
 }

@@ -1,7 +1,3 @@
-pub mod Levels
-pub mod Couples
-pub mod Seen
-pub mod Turns
 pub mod Thinning
 pub mod Shrunk
 pub mod Removing

@@ -6,20 +6,21 @@ use mathlib.Core.List.{List}
 use lib.ListN.{length}
 use native.Mathlib.Omega.{arith}
 use Rattle.regions.specs.declared.Region.{Region}
+use Rattle.pages.specs.Layout.{pageOf, childIn}
 use Rattle.xrtree.specs.Tree.{Key, Inner, Tree}
 use Rattle.xrtree.specs.Claims.{pageAt}
 use Rattle.xrtree.specs.Holes.{loAfter, Post, fill, hiPost}
-use Rattle.pages.specs.Layout.{pageOf, childIn}
-use Rattle.standing.specs.Stands.{Around, Stands}
 use Rattle.path.specs.Path.{rankIn}
+use Rattle.standing.specs.Stands.{Around, Stands}
 use Rattle.steps.specs.Steps.{size}
-use Rattle.split.proofs.Seen.{child-is}
 use Rattle.room.specs.Ways.{Filled, Others, OnWay, KidsBut, Way, Mended, Thinned}
 use Rattle.room.proofs.Fills.{way-in, but-hole}
 use Rattle.room.proofs.Becoming.{becomes-both, beside, stands-child, room-child}
 use Rattle.room.proofs.Mending.{Under, thinned-page, thinned-under, thin-below, thin-room}
-use Rattle.remove.specs.Mends.{Room, Thin, MendAsk, Leads}
-use Rattle.remove.proofs.Seen.{rank-is}
+use Rattle.split.proofs.Seen.{child-is}
+use Rattle.mending.specs.Mends.{Room, Thin}
+use Rattle.mending.proofs.Seen.{rank-is}
+use Rattle.remove.specs.Mends.{MendAsk, Leads}
 
 pub mended-then : {w w₁ w₂ : List ℕ} {rs : List Region} {h lo hi : ℕ} {o : Around} {t t₁ : Tree (suc h)} → Under 0 w w₁ rs h lo hi o t t₁ → Mended w₁ w₂ rs h lo hi o t₁ → Mended w w₂ rs h lo hi o t
 mended-then u m =

@@ -7,7 +7,7 @@ fn place(seats: [Seat; regions::SEAT_COUNT], n: Numbers) -> [Seat; regions::SEAT
     let mut left = seats;
     let i = words::wide(n[0]);
     if i < 8 {
-        left[i] = regions::seat_of_numbers(n[1], n[2], n[3], n[4], n[5], n[6], n[7]);
+        left[i] = flat::seat_of_numbers(n[1], n[2], n[3], n[4], n[5], n[6], n[7]);
     }
     left
 }
@@ -22,7 +22,7 @@ pub fn call(
         return place(seats, n);
     }
     if what == script::SEAT {
-        let o = desk::open_seat_by_value(seats, n[0], n[1], regions::kind_of(n[2]), n[3]);
+        let o = desk::open_seat_by_value(seats, n[0], n[1], flat::kind_of(n[2]), n[3]);
         console::line(&[o.number]);
         return o.seats;
     }

@@ -114,7 +114,7 @@ pub fn call(img: &mut [u32], what: usize, n: Numbers, answers: &mut [u32]) {
 // The join of two images, which may be one and the same.
 pub fn join(outer: &[u32], inner: &[u32], n: Numbers, answers: &mut [u32]) {
     let room = least(words::wide(n[4]), answers.len());
-    let kind = regions::kind_of(n[3]);
+    let kind = flat::kind_of(n[3]);
     let r = queries::join_sets(outer, inner, n[2], kind, &mut answers[0..room]);
     console::line(&[r.number, console::narrow(r.total)]);
     console::rows(&answers[0..room], r.total);

@@ -19,8 +19,9 @@ use Rattle.path.proofs.Ways.{path-long, path-at, down-more, down-none, fills-at
 use Rattle.tally.specs.declared.Task.{Task}
 use Rattle.tally.specs.declared.Tally.{Tally}
 use Rattle.tally.specs.Tallies.{Tallied, stepped, freshTally}
-use Rattle.meets.specs.PageMet.{listsFrom, listsLookedFrom, listsMet, listsLooked, leafMet}
-use Rattle.meets.proofs.Tallies.{Leads, leads-all, tallied-step, tallied-then, leads-on, leads-last}
+use Rattle.leafmet.specs.LeafMet.{leafMet}
+use Rattle.meets.specs.PageMet.{listsFrom, listsLookedFrom, listsMet, listsLooked}
+use Rattle.tally.proofs.Tallies.{Leads, leads-all, tallied-step, tallied-then, leads-on, leads-last}
 use Rattle.search.proofs.PathMet.{lists-few, lists-looked-few}
 
 -- A PAGE: its lists, and then the child on the path

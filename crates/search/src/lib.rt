@@ -30,7 +30,7 @@ fn search_path(img: &[u32], way: [u32; 4], p: u32, task: Task, out: &mut [u32]) 
         i += 1;
     }
     t = tally::step(t);
-    meets::leaf_own(img, way[depth], p, task, out, t)
+    leafmet::leaf_own(img, way[depth], p, task, out, t)
 }
 
 // THE SEARCH of a valid image for the ancestors of p, outermost first, along p's path.

@@ -28,7 +28,10 @@ fn cut_key(leaf: Page, c: usize) -> u32
     requires { ⌜ (1 ≤ c) × (c < 9) × (entryAt leaf (c - 1) .region .start < entryAt leaf c .region .start) ⌝ }
     ensures { λ r. ⌜ r ≡ keyBetween (entryAt leaf (c - 1) .region .start) (entryAt leaf c .region .start) ⌝ }
 {
-    key_between(newpages::start_in(leaf, c - 1), newpages::start_in(leaf, c))
+    key_between(
+        pagewords::start_in(leaf, c - 1),
+        pagewords::start_in(leaf, c),
+    )
 }
 
 // The two parts of a page and the page above them.
@@ -48,7 +51,7 @@ pub fn leaf(img: &mut [u32], path: [u32; 4], at: usize, i: usize, c: usize)
 {
     let q = path[at];
     let page = store::load_page(img, q);
-    let p = newpages::child_in(page, i);
+    let p = pagewords::child_in(page, i);
     let leaf = store::load_page(img, p);
     let r = store::first_free_page(img);
     let k = cut_key(leaf, c);
@@ -67,7 +70,7 @@ pub fn inner(img: &mut [u32], path: [u32; 4], at: usize, i: usize, c: usize)
 {
     let q = path[at];
     let page = store::load_page(img, q);
-    let p = newpages::child_in(page, i);
+    let p = pagewords::child_in(page, i);
     let child = store::load_page(img, p);
     let r = store::first_free_page(img);
     let risen = raising::raise(img, child, c);

@@ -4,7 +4,7 @@ use borrow.Author.Needs.{needs}
 use Rattle.capi.proofs.Told.{joins-at}
 use Rattle.capi.proofs.sasnuvarth_join.Statement.{statement}
 use Rattle.capi.proofs.sasnuvarth_join.Tie as tie
-use Rattle.regions.proofs.kind_of.Reads as kind-of-reads
+use Rattle.flat.proofs.kind_of.Reads as kind-of-reads
 use Rattle.queries.proofs.join_sets.Reads as join-sets-reads
 
 kind-of-requires : tie.Need-kind-of-requires

@@ -5,7 +5,7 @@ use Rattle.capi.proofs.Calls.{opens-seat}
 use Rattle.capi.proofs.sasnuvarth_open_seat.Statement.{statement}
 use Rattle.capi.proofs.sasnuvarth_open_seat.Tie as tie
 use Rattle.flat.proofs.desk_left.Reads as desk-left-reads
-use Rattle.regions.proofs.kind_of.Reads as kind-of-reads
+use Rattle.flat.proofs.kind_of.Reads as kind-of-reads
 use Rattle.flat.proofs.seats_of.Reads as seats-of-reads
 use Rattle.desk.proofs.open_seat_by_value.Reads as open-seat-by-value-reads
 

@@ -5,7 +5,7 @@ use Rattle.flat.specs.Seats.{flatMarked}
 use Rattle.flat.proofs.Flat.{flat-at}
 use Rattle.flat.proofs.flat_open.Statement.{statement}
 use Rattle.flat.proofs.flat_open.Tie as tie
-use Rattle.regions.proofs.kind_number.Reads as kind-number-reads
+use Rattle.flat.proofs.kind_number.Reads as kind-number-reads
 
 kind-number-requires : tie.Need-kind-number-requires
 kind-number-requires c κs = search needs

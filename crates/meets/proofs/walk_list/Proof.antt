@@ -5,7 +5,7 @@ use mathlib.Core.Path.{sym, _∙_}
 use Rattle.words.proofs.Tests.{not-true, not-false}
 use Prim.Native.Nat.{_-_, _≤_}
 use native.Mathlib.Omega.{arith}
-use Rattle.meets.proofs.Tallies.{leads-all}
+use Rattle.tally.proofs.Tallies.{leads-all}
 use Rattle.meets.proofs.Loops.{Walking, walk-ended, walk-full, walk-stop, walk-on}
 use Rattle.meets.proofs.walk_list.Statement.{statement}
 use Rattle.meets.proofs.walk_list.Tie as tie

@@ -7,7 +7,7 @@ use Rattle.remove.proofs.Thinning.{child-ask, page-ask, page-done}
 use Rattle.remove.proofs.mend_high.Statement.{statement}
 use Rattle.remove.proofs.mend_high.Tie as tie
 use Rattle.remove.proofs.mend_mid.Reads as mend-mid-reads
-use Rattle.remove.proofs.mend_page.Reads as mend-page-reads
+use Rattle.mending.proofs.mend_page.Reads as mend-page-reads
 
 add-mend-mid : tie.Need-add-mend-mid
 add-mend-mid c = search needs

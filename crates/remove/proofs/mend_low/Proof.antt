@@ -4,7 +4,7 @@ use borrow.Author.Needs.{needs}
 use Rattle.remove.proofs.Thinning.{low-ask, low-done}
 use Rattle.remove.proofs.mend_low.Statement.{statement}
 use Rattle.remove.proofs.mend_low.Tie as tie
-use Rattle.remove.proofs.mend_page.Reads as mend-page-reads
+use Rattle.mending.proofs.mend_page.Reads as mend-page-reads
 
 mend-page-requires : tie.Need-mend-page-requires
 mend-page-requires c κs = (c .before .before .pre .0, low-ask (c .before .before .pre .1))

@@ -7,7 +7,7 @@ use Rattle.remove.proofs.Thinning.{child-ask, page-ask, page-done}
 use Rattle.remove.proofs.mend_mid.Statement.{statement}
 use Rattle.remove.proofs.mend_mid.Tie as tie
 use Rattle.remove.proofs.mend_low.Reads as mend-low-reads
-use Rattle.remove.proofs.mend_page.Reads as mend-page-reads
+use Rattle.mending.proofs.mend_page.Reads as mend-page-reads
 
 add-mend-low : tie.Need-add-mend-low
 add-mend-low c = search needs

@@ -2,7 +2,7 @@
 -- Assumes nothing.
 use borrow.Author.Needs.{needs}
 use native.Mathlib.Omega.{arith}
-use Rattle.meets.proofs.Tallies.{tallied-same}
+use Rattle.tally.proofs.Tallies.{tallied-same}
 use Rattle.search.proofs.Right.{found-right}
 use Rattle.path.proofs.Ways.{descend-asks}
 use Rattle.search.proofs.search.Statement.{statement}

@@ -1,0 +1,27 @@
+-- Kinds, marks and seats in plain numbers, as whoever has only numbers to hand hands them over: a program in C, or a script.
+-- Assumes nothing.
+use Prim.Native.Nat.{ℕ}
+use mathlib.Core.Bool.{cond}
+use lib.Dec.{eqb}
+use Rattle.regions.specs.Desk.{closed, openAt}
+use Rattle.regions.specs.declared.Kind.{Kind}
+use Rattle.regions.specs.declared.Kind.the-variants.{Ancestor, Parent}
+use Rattle.regions.specs.declared.Mark.{Mark}
+use Rattle.regions.specs.declared.Mark.the-variants.{Fresh, Last}
+use Rattle.regions.specs.declared.Seat.{Seat}
+
+-- 0 is by ancestor, all else by parent
+unfoldable pub kindOf : ℕ → Kind
+kindOf k = cond (eqb k 0) Ancestor Parent
+
+unfoldable pub kindNumber : Kind → ℕ
+kindNumber Ancestor = 0
+kindNumber Parent = 1
+
+unfoldable pub markOf : ℕ → ℕ → ℕ → Mark
+markOf marked a d = cond (eqb marked 0) Fresh (Last a d)
+
+-- closed where opened is 0, and then the other six mean nothing
+unfoldable pub seatOfNumbers : ℕ → ℕ → ℕ → ℕ → ℕ → ℕ → ℕ → Seat
+seatOfNumbers opened account kind limit marked a d =
+    cond (eqb opened 0) closed (openAt (record { account = account; kind = kindOf kind; limit = limit; mark = markOf marked a d }))

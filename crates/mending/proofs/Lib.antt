@@ -1,0 +1,4 @@
+pub mod Couples
+pub mod Levels
+pub mod Turns
+pub mod Seen
