@@ -79,6 +79,14 @@ static void check_desk(void) {
     expect("part's last", buffer[p.first + p.words - 1], 201);
     r = sasnuvarth_round(outer, n, inner, n, r.desk, buffer, SASNUVARTH_BUFFER_WORDS);
     expect("second count", r.counts[1], 2);
+    s = sasnuvarth_open_seat(r.desk, 2, 0, SASNUVARTH_BY_ANCESTOR, 0);
+    expect("open at the house limit", s.number, SASNUVARTH_DONE);
+    expect("house limit", s.desk.seats[2].limit, SASNUVARTH_HOUSE_LIMIT);
+    s = sasnuvarth_open_seat(r.desk, 2, 0, SASNUVARTH_BY_ANCESTOR, SASNUVARTH_MOST_A_ROUND);
+    expect("open at the most", s.number, SASNUVARTH_DONE);
+    expect("the most", s.desk.seats[2].limit, 32);
+    s = sasnuvarth_open_seat(r.desk, 2, 0, SASNUVARTH_BY_ANCESTOR, SASNUVARTH_MOST_A_ROUND + 1);
+    expect("open above the most", s.number, SASNUVARTH_LIMIT);
     s = sasnuvarth_close_seat(r.desk, 1);
     expect("close seat", s.number, SASNUVARTH_DONE);
     expect("closed", s.desk.seats[1].opened, 0);

@@ -25,6 +25,8 @@ enum {
     SASNUVARTH_REGION_WORDS = 4, /* start, end, level, reference */
     SASNUVARTH_PAIR_WORDS = 4,   /* a start, a reference, d start, d reference */
     SASNUVARTH_SEATS = 8,
+    SASNUVARTH_HOUSE_LIMIT = 8,   /* pairs a round of a seat opened with limit 0 */
+    SASNUVARTH_MOST_A_ROUND = 32, /* pairs a round that a seat may ask for at most */
     SASNUVARTH_BUFFER_WORDS = 1024 /* 128 for each seat */
 };
 
@@ -144,7 +146,7 @@ struct sasnuvarth_part_answer {
 /* Eight closed seats. */
 struct sasnuvarth_desk sasnuvarth_open_desk(void);
 
-/* A limit of 0 asks for as many pairs a round as the house gives, 32. */
+/* A limit of 0 asks for as many pairs a round as the house gives, 8; by number up to 32 may be asked for. */
 struct sasnuvarth_desk_answer
 sasnuvarth_open_seat(struct sasnuvarth_desk desk, uint32_t seat, uint32_t account, uint32_t kind, uint32_t limit);
 

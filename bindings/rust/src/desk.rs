@@ -6,6 +6,12 @@ use crate::{done, Answer, Kind};
 /// Words of a round buffer: 128 for each seat.
 pub const BUFFER_WORDS: usize = 1024;
 
+/// Pairs a round of a seat that is opened with limit 0.
+pub const HOUSE_LIMIT: u32 = 8;
+
+/// Pairs a round that a seat may ask for at most.
+pub const MOST_A_ROUND: u32 = 32;
+
 /// How far a seat has been served: the last pair handed, by a's start and d's start.
 #[derive(Clone, Copy, Debug, PartialEq, Eq)]
 pub enum Mark {
@@ -60,7 +66,8 @@ impl Desk {
         self.flat.seats.map(seat_of)
     }
 
-    /// Opens a closed seat. A limit of 0 asks for as many pairs a round as the house gives, 32.
+    /// Opens a closed seat. A limit of 0 asks for as many pairs a round as the house gives, [`HOUSE_LIMIT`]; by number up to
+    /// [`MOST_A_ROUND`] may be asked for.
     pub fn open_seat(&mut self, seat: u32, account: u32, kind: Kind, limit: u32) -> Answer<()> {
         let told = unsafe { raw::sasnuvarth_open_seat(self.flat, seat, account, kind.number(), limit) };
         self.flat = told.desk;

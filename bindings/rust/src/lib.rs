@@ -10,7 +10,7 @@
 mod desk;
 pub mod raw;
 
-pub use desk::{Desk, Mark, Seat, BUFFER_WORDS};
+pub use desk::{Desk, Mark, Seat, BUFFER_WORDS, HOUSE_LIMIT, MOST_A_ROUND};
 
 /// Words of an image.
 pub const IMAGE_WORDS: usize = 12288;

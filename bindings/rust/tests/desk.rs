@@ -7,7 +7,7 @@ use plain::desk::{close_seat, open_desk, open_seat, part, round};
 use plain::image::read;
 use plain::{account_of, Set};
 use sasnuvarth::raw::*;
-use sasnuvarth::{Desk, Kind, Mark, Refusal, Region, Seat};
+use sasnuvarth::{Desk, Kind, Mark, Refusal, Region, Seat, HOUSE_LIMIT, MOST_A_ROUND};
 
 fn check_open_seat(desk: &FlatDesk, i: u32, account: u32, kind: u32, limit: u32) -> (u32, FlatDesk) {
     let told = unsafe { sasnuvarth_open_seat(*desk, i, account, kind, limit) };
@@ -49,7 +49,7 @@ fn open_image(shares: &[u32; 16]) -> Box<[u32]> {
 /// Some number of a seat is changed: to what may mean the same, or to what may break its ranges.
 fn disturb(chance: &mut Chance, desk: &mut FlatDesk) {
     let s = &mut desk.seats[chance.below(8) as usize];
-    let near = chance.pick(&[0, 1, 2, 15, 16, 31, 32, 33, u32::MAX]);
+    let near = chance.pick(&[0, 1, 2, 8, 9, 15, 16, 31, 32, 33, u32::MAX]);
     let position = chance.pick(&[5, 3 * 268_435_456 + 7, 15 * 268_435_456 + 40]);
     match chance.below(7) {
         0 => s.opened = near,
@@ -162,4 +162,30 @@ fn dealt_in_rounds() {
     assert_eq!(desk.close_seat(2), Ok(()));
     assert_eq!(desk, Desk::open());
     assert_eq!(desk.part(&buffer, 2, 0), Err(Refusal::Seat));
+}
+
+/// Twenty pairs to a seat that was opened with limit 0, to one that asks for nine, and to one from before that has 32 stored.
+#[test]
+fn house_limit() {
+    let mut shares = [0; 16];
+    shares[0] = 20;
+    let (mut outer, mut inner) = (open_image(&shares), open_image(&shares));
+    sasnuvarth::save(&mut outer, 0, Region { start: 1, end: 100, level: 8, reference: 7 }).unwrap();
+    for i in 0..20 {
+        sasnuvarth::save(&mut inner, 0, Region { start: 10 + 2 * i, end: 11 + 2 * i, level: 9, reference: i }).unwrap();
+    }
+    let seat = |limit| Seat::Open { account: 0, kind: Kind::Ancestor, limit, mark: Mark::Fresh };
+    let mut seats = [Seat::Closed; 8];
+    seats[2] = seat(MOST_A_ROUND);
+    let (mut desk, mut buffer) = (Desk::of(seats), vec![7; 1024]);
+    assert_eq!(desk.open_seat(0, 0, Kind::Ancestor, 0), Ok(()));
+    assert_eq!(desk.open_seat(1, 0, Kind::Ancestor, HOUSE_LIMIT + 1), Ok(()));
+    assert_eq!(desk.open_seat(3, 0, Kind::Ancestor, MOST_A_ROUND + 1), Err(Refusal::Limit));
+    assert_eq!(desk.seats()[..4], [seat(8), seat(9), seat(32), Seat::Closed]);
+    assert_eq!(desk.part(&buffer, 0, 8).map(<[u32]>::len), Ok(32));
+    assert_eq!(desk.part(&buffer, 0, 9), Err(Refusal::Limit));
+    for counts in [[8, 9, 20], [8, 9, 0], [4, 2, 0], [0, 0, 0]] {
+        let told = desk.round(&outer, &inner, &mut buffer).unwrap();
+        assert_eq!(told[..3], counts);
+    }
 }

@@ -14,6 +14,7 @@ use Rattle.words.proofs.Tests.{eq-of, either}
 use Rattle.regions.specs.declared.Region.{Region}
 use Rattle.regions.specs.declared.Seat.{Seat}
 use Rattle.regions.specs.Positions.{account, wellBound, wellFormed}
+use Rattle.regions.specs.Limits.{mostARound}
 use Rattle.regions.specs.Sets.{Set, emptySet, heldBy, shareOf, heldAt, crossed, saved, deleted}
 use Rattle.regions.specs.Numbers.{REGION, ACCOUNT, HELD, CROSS, SHARE, ABSENT, SEAT, LIMIT, DESK, unless}
 use Rattle.regions.specs.Calls.{foreign, openSetNo, saveNo, deleteNo, pointNo, boundsNo, joinNo, ancestors, parent, descendants, children, joined}
@@ -207,7 +208,7 @@ fair so si (delete w a p) s g = fair-first ((foreign a p, ACCOUNT) ∷ (not (hel
 fair so si (look a o) s g = fair-look a o s
 fair so si (round x y) s g = rw (ap (λ (z : Shown). z .number) (round-answer so si s x y g)) (omega arith)
 fair so si (openSeat i a k l) s g =
-    rw (desk-fits so si s g, first-no false DESK _ refl) (fair-first ((ltb 7 i || isOpen (seatAt (s .desk) i), SEAT) ∷ (ltb 15 a, ACCOUNT) ∷ (ltb 32 l, LIMIT) ∷ []) (omega arith))
+    rw (desk-fits so si s g, first-no false DESK _ refl) (fair-first ((ltb 7 i || isOpen (seatAt (s .desk) i), SEAT) ∷ (ltb 15 a, ACCOUNT) ∷ (ltb mostARound l, LIMIT) ∷ []) (omega arith))
 fair so si (closeSeat i) s g =
     rw (desk-fits so si s g, first-no false DESK _ refl) (fair-first ((ltb 7 i || not (isOpen (seatAt (s .desk) i)), SEAT) ∷ []) (omega arith))
 fair so si (askPart i n) s g = omega arith

@@ -1,7 +1,7 @@
 -- C-23, of every run: the pairs that one opening of a seat is handed never go back in the join's order; a pair that is listed when its turn comes is handed
 -- in that round alone; and while the account's regions stay, the rounds go through the list by the seat's limit.
 -- Assumes nothing.
-use Prim.Native.Nat.{ℕ, _+_, _*_, min}
+use Prim.Native.Nat.{ℕ, _+_, _*_, _<_, min}
 use mathlib.Core.Path.{_≡_, refl, sym, ap, ap₂, _∙_, subst}
 use mathlib.Core.Logic.{_⊎_, ⊎-elim, inl, inr}
 use mathlib.Core.Bool.{Bool, true, false, cond, true≢false, false≢true}
@@ -33,9 +33,9 @@ use Rattle.plainruns.specs.Calls.Look.{ancestorSearch, parentSearch, des
 use Rattle.plainruns.specs.Calls.Call.{save, delete, look, round, openSeat, closeSeat, askPart, askPartNo}
 use Rattle.plainruns.specs.Calls.Run.{none, then}
 use Rattle.plainruns.specs.Held.{isWhich, isRound}
-use Rattle.plainruns.specs.Long.{isPair, reaches, staysOpen, Stays, handedBy, handedIn, toldTo, roundsIn, touches, Quiet}
+use Rattle.plainruns.specs.Long.{isPair, reaches, keepsOpen, Kept, isOver, Over, handedBy, handedIn, toldTo, roundsIn, touches, Quiet}
 use Rattle.plainruns.proofs.Good.{Good, good-set, good-next, good-reached, round-answer, round-leaves}
-use Rattle.plainruns.proofs.Demand.{after, take-min, words-at}
+use Rattle.plainruns.proofs.Demand.{after, run-after, take-min, words-at}
 use Rattle.plainruns.proofs.Held.{is-which}
 
 -- THE SEAT behind a call that leaves it open: its mark is moved behind what it was handed
@@ -50,8 +50,8 @@ desk-with : (w : Which) (S : Set) (s : State) → withSet w S s .desk ≡ s .des
 desk-with outer S s = refl
 desk-with inner S s = refl
 
-module _ (so si : List ℕ) (i : ℕ) (x y : Which) where
-  seat-after : (o : Open) (c : Call) (s : State) → Good so si s → seatAt (s .desk) i ≡ openAt o → staysOpen i x y c ≡ true
+module _ (so si : List ℕ) (i : ℕ) where
+  seat-after : (o : Open) (c : Call) (s : State) → Good so si s → seatAt (s .desk) i ≡ openAt o → keepsOpen i c ≡ true
       → seatAt (next c s .desk) i ≡ openAt (moved o (handedBy i c s))
   unfolding next stateTurned stateOpen
   seat-after o (save w b r) s g e h =
@@ -72,7 +72,7 @@ module _ (so si : List ℕ) (i : ℕ) (x y : Which) where
   seat-after o (askPart j n) s g e h = e ∙ moved-none o
   seat-after o (askPartNo j n) s g e h = e ∙ moved-none o
 
-  seat-by : (o : Open) (cs : List Call) (s : State) → Good so si s → seatAt (s .desk) i ≡ openAt o → Stays i x y cs
+  pub seat-by : (o : Open) (cs : List Call) (s : State) → Good so si s → seatAt (s .desk) i ≡ openAt o → Kept i cs
       → seatAt (after cs s .desk) i ≡ openAt (moved o (handedIn i cs s))
   seat-by o [] s g e h = e ∙ moved-none o
   seat-by o (c ∷ cs) s g e h =
@@ -120,12 +120,12 @@ join-rise m (z ∷ zs) rs h p k q = (
   all-append (λ r. isPast m r ≡ true) (z ∷ zs) rs p (all-mono {Q = λ r. isPast m r ≡ true} (λ r t. past-trans m (lastOr z zs) r (all-end (λ r. isPast m r ≡ true) z zs p) t) rs q),
 )
 
-pub rise : (so si : List ℕ) (i : ℕ) (x y : Which) (o : Open) (cs : List Call) (s : State) → Good so si s → seatAt (s .desk) i ≡ openAt o → Stays i x y cs
+pub rise : (so si : List ℕ) (i : ℕ) (o : Open) (cs : List Call) (s : State) → Good so si s → seatAt (s .desk) i ≡ openAt o → Kept i cs
     → Ascending (handedIn i cs s) × All (λ q. isPast (o .mark) q ≡ true) (handedIn i cs s)
-rise so si i x y o [] s g e h = (tt, tt)
-rise so si i x y o (c ∷ cs) s g e h =
-    let d = handed-ascends so si i x y o c s g e in
-    let r = rise so si i x y (moved o (handedBy i c s)) cs (next c s) (good-next so si c s g) (seat-after so si i x y o c s g e (h .0)) (h .1) in
+rise so si i o [] s g e h = (tt, tt)
+rise so si i o (c ∷ cs) s g e h =
+    let d = handed-ascends so si i o c s g e in
+    let r = rise so si i (moved o (handedBy i c s)) cs (next c s) (good-next so si c s g) (seat-after so si i o c s g e (h .0)) (h .1) in
     join-rise (o .mark) (handedBy i c s) (handedIn i cs (next c s)) (d .0) (d .1) (r .0) (r .1)
 
 -- EXACTLY ONCE
@@ -196,7 +196,7 @@ good-after so si [] s g = g
 good-after so si (c ∷ cs) s g = good-after so si cs (next c s) (good-next so si c s g)
 
 pub once : (so si : List ℕ) (i : ℕ) (x y : Which) (o : Open) (pre post : List Call) (s : State) → Good so si s → o .mark ≡ Fresh → seatAt (s .desk) i ≡ openAt o
-    → Stays i x y (pre ++ round x y ∷ post) → (q : Pair) → let t = after pre s in
+    → Kept i (pre ++ round x y ∷ post) → (q : Pair) → let t = after pre s in
     All (λ p. reaches q p ≡ false) (handedIn i pre s) → some (filter (reaches q) (handedBy i (round x y) t)) ≡ true → In q (joined (setOf x t) (setOf y t) (o .account) (o .kind))
     → In q (handedBy i (round x y) t) × All (λ p. isPair q p ≡ false) (handedIn i pre s) × All (λ p. isPair q p ≡ false) (handedIn i post (next (round x y) t))
 unfolding stateHanded reaches
@@ -206,13 +206,13 @@ once so si i x y o pre post s g f e h q first here held =
     let others = handedIn i post (next (round x y) t) in
     let n = moved o (handedIn i pre s) in
     let gt : Good so si t = good-after so si pre s g in
-    let seat : seatAt (t .desk) i ≡ openAt n = seat-by so si i x y o pre s g e (all-left (λ c. staysOpen i x y c ≡ true) pre (round x y ∷ post) h) in
+    let seat : seatAt (t .desk) i ≡ openAt n = seat-by so si i o pre s g e (all-left (λ c. keepsOpen i c ≡ true) pre (round x y ∷ post) h) in
     let L = joined (setOf x t) (setOf y t) (o .account) (o .kind) in
     let up = ascending-past (n .mark) L (joined-ascends (setOf x t) (setOf y t) (o .account) (o .kind) (good-set so si x t gt .sound .rising) (good-set so si y t gt .sound .rising)) in
     let fresh : isPast (n .mark) q ≡ true = ap (λ m. isPast (markBehind m (handedIn i pre s)) q) f ∙ mark-short q (handedIn i pre s) first in
     let deal : mine ≡ take (o .limit) (past (n .mark) L) = ap (handed (setOf x t) (setOf y t)) seat in
     let inD : In q mine = rw deal (in-take (o .limit) q (past (n .mark) L) up (in-filter (isPast (n .mark)) q L held fresh) (sym (ap (λ l. some (filter (reaches q) l)) deal) ∙ here)) in
-    let rises = rise so si i x y n (round x y ∷ post) t gt seat (all-right (λ c. staysOpen i x y c ≡ true) pre (round x y ∷ post) h) .0 in
+    let rises = rise so si i n (round x y ∷ post) t gt seat (all-right (λ c. keepsOpen i c ≡ true) pre (round x y ∷ post) h) .0 in
     let later-ones = in-all (λ p. All (Then p) others) q mine inD (pairs-across Then mine others rises) in
     (inD, all-mono {Q = λ p. isPair q p ≡ false} (λ p z. or-false-left (isPair q p) _ z) (handedIn i pre s) first, all-mono {Q = λ p. isPair q p ≡ false} (λ p z. not-pair p q z) others later-ones)
 
@@ -273,7 +273,7 @@ no-round i (closeSeat j) s h = refl
 no-round i (askPart j n) s h = refl
 no-round i (askPartNo j n) s h = refl
 
-round-hands : (i : ℕ) (x y : Which) (o : Open) (c : Call) (s : State) → isRound c ≡ true → staysOpen i x y c ≡ true → seatAt (s .desk) i ≡ openAt o
+round-hands : (i : ℕ) (x y : Which) (o : Open) (c : Call) (s : State) → isRound c ≡ true → isOver x y c ≡ true → seatAt (s .desk) i ≡ openAt o
     → handedBy i c s ≡ take (o .limit) (left (setOf x s) (setOf y s) o)
 unfolding stateHanded
 round-hands i x y o (save w b r) s z h e = absurd (false≢true z)
@@ -292,20 +292,20 @@ unfolding markBehind
 stays-put m n L = refl
 
 pub counted : (so si : List ℕ) (i : ℕ) (x y : Which) (o : Open) (cs : List Call) (s : State) (L : List Pair) → Good so si s → joined (setOf x s) (setOf y s) (o .account) (o .kind) ≡ L
-    → seatAt (s .desk) i ≡ openAt o → Stays i x y cs → Quiet (o .account) cs s → handedIn i cs s ≡ take (roundsIn cs * o .limit) (past (o .mark) L)
+    → seatAt (s .desk) i ≡ openAt o → Kept i cs → Over x y cs → Quiet (o .account) cs s → handedIn i cs s ≡ take (roundsIn cs * o .limit) (past (o .mark) L)
 unfolding filter
-counted so si i x y o [] s L g j e h q = let z : 0 * o .limit ≡ 0 = omega arith in rw z
-counted so si i x y o (c ∷ cs) s L g j e h q =
+counted so si i x y o [] s L g j e h v q = let z : 0 * o .limit ≡ 0 = omega arith in rw z
+counted so si i x y o (c ∷ cs) s L g j e h v q =
     let a = o .account in
     let k = o .kind in
     let l = o .limit in
     let R = past (o .mark) L in
     let j′ : joined (setOf x (next c s)) (setOf y (next c s)) a k ≡ L = quiet-joined c s a k x y (q .0) ∙ j in
     let up : Ascending L = rw j at (joined-ascends (setOf x s) (setOf y s) a k (good-set so si x s g .sound .rising) (good-set so si y s g .sound .rising)) in
-    let ih = counted so si i x y (moved o (handedBy i c s)) cs (next c s) L (good-next so si c s g) j′ (seat-after so si i x y o c s g e (h .0)) (h .1) (q .1) in
+    let ih = counted so si i x y (moved o (handedBy i c s)) cs (next c s) L (good-next so si c s g) j′ (seat-after so si i o c s g e (h .0)) (h .1) (v .1) (q .1) in
     by-test (isRound c)
     (λ r.
-    let d : handedBy i c s ≡ take l R = round-hands i x y o c s r (h .0) e ∙ ap (λ z. take l (past (o .mark) z)) j in
+    let d : handedBy i c s ≡ take l R = round-hands i x y o c s r (v .0) e ∙ ap (λ z. take l (past (o .mark) z)) j in
     let w : roundsIn (c ∷ cs) * l ≡ l + roundsIn cs * l = ap (λ z. length z * l) (filter-yes isRound c cs r) ∙ omega arith in
     ap₂ _++_ d (ih ∙ ap (take (roundsIn cs * l)) (ap (λ z. past (markBehind (o .mark) z) L) d ∙ past-next (o .mark) l L up))
     ∙ sym (take-add l (roundsIn cs * l) R) ∙ ap (λ z. take z R) (sym w))
@@ -346,43 +346,55 @@ told-words so si i {s = s} (then {d = d} {ds = ds} st run) g =
     (told-words so si i run (rw (st .leaves) (good-next so si (d .call) s g)) ∙ ap (λ z. flatMap pairWords (handedIn i (callsOf ds) z)) (st .leaves))
     ∙ sym (flat-append pairWords (handedBy i (d .call) s) (handedIn i (callsOf ds) (next (d .call) s)))
 
-open-seat : (so si : List ℕ) (s : State) (i a : ℕ) (k : Kind) (l : ℕ) → Good so si s → openSeatNo (s .desk) i a l ≡ 0 → seatAt (next (openSeat i a k l) s .desk) i ≡ opened a k l
-unfolding next
-open-seat so si s i a k l g e =
+-- THE SEAT AS IT IS OPENED, and behind calls none of which closes it: account, kind and limit stay as stored then
+seat-opened : (so si : List ℕ) {s t : State} {z : Answer} → Good so si s → (i a : ℕ) (k : Kind) (l : ℕ) → Step s (openSeat i a k l) z t → z .shown .number ≡ 0
+    → Good so si t × (i < 8) × (seatAt (t .desk) i ≡ opened a k l)
+unfolding answer next
+seat-opened so si {s = s} g i a k l st done =
+    let e : openSeatNo (s .desk) i a l ≡ 0 = sym (ap (λ (q : Shown). q .number) (st .answers)) ∙ done in
     let c = open-seat-done (s .desk) i a l e .seat in
-    let n = g .desk-good .eight in
-    ap (λ b. seatAt (cond b (behindOpen i (opened a k l) s) s .desk) i) (eq-yes (openSeatNo (s .desk) i a l) 0 e) ∙ getD-set-same (s .desk) i (opened a k l) closed (omega arith)
+    let n = g .desk-good .eight in (
+      (rw (st .leaves) (good-next so si (openSeat i a k l) s g)),
+      omega arith,
+      ap (λ (q : State). seatAt (q .desk) i) (st .leaves)
+          ∙ ap (λ b. seatAt (cond b (behindOpen i (opened a k l) s) s .desk) i) (eq-yes (openSeatNo (s .desk) i a l) 0 e)
+          ∙ getD-set-same (s .desk) i (opened a k l) closed (omega arith),
+    )
 
--- C-23: behind any run from the opened state, seat i is opened and then come the calls of es, none of which closes it, all of whose rounds are over x and y
+pub stored : (so si : List ℕ) {s t u : State} {es : List Done} {z : Answer} → Good so si s → (i a : ℕ) (k : Kind) (l : ℕ) → Step s (openSeat i a k l) z t → z .shown .number ≡ 0
+    → Run t es u → Kept i (callsOf es) → (i < 8) × (m : Mark) × (seatAt (u .desk) i ≡ openAt (record { account = a; kind = k; limit = limitAsked l; mark = m }))
+stored so si {t = t} {es = es} g i a k l st done run kept =
+    let b = seat-opened so si g i a k l st done in
+    let o : Open = record { account = a; kind = k; limit = limitAsked l; mark = Fresh } in (
+      b .1,
+      markBehind Fresh (handedIn i (callsOf es) t),
+      ap (λ (q : State). seatAt (q .desk) i) (run-after run) ∙ seat-by so si i o (callsOf es) t (b .0) (b .2) kept,
+    )
+
+-- C-23: behind any run from the opened state, seat i is opened and then come the calls of es, none of which closes it
 module _ (so si : List ℕ) (s₀ s t u : State) (ds es : List Done) (z : Answer) (o : Opened so si s₀) (run : Run s₀ ds s) (i a : ℕ) (k : Kind) (l : ℕ)
-    (st : Step s (openSeat i a k l) z t) (done : z .shown .number ≡ 0) (run′ : Run t es u) (x y : Which) (stays : Stays i x y (callsOf es)) where
+    (st : Step s (openSeat i a k l) z t) (done : z .shown .number ≡ 0) (run′ : Run t es u) (kept : Kept i (callsOf es)) where
   abbrev seat : Open
   seat = record { account = a; kind = k; limit = limitAsked l; mark = Fresh }
 
-  good-s : Good so si s
-  good-s = good-reached so si o run
-
-  good-t : Good so si t
-  good-t = rw (st .leaves) (good-next so si (openSeat i a k l) s good-s)
-
-  seat-t : seatAt (t .desk) i ≡ opened a k l
-  unfolding answer
-  seat-t = rw (st .leaves) (open-seat so si s i a k l good-s (sym (ap (λ (q : Shown). q .number) (st .answers)) ∙ done))
+  at-opening : Good so si t × (i < 8) × (seatAt (t .desk) i ≡ opened a k l)
+  at-opening = seat-opened so si (good-reached so si o run) i a k l st done
 
   -- the words that its rounds hand it are those of pairs that ascend strictly in the join's order
   pub c23-rise : (flatMap (toldTo i) es ≡ flatMap pairWords (handedIn i (callsOf es) t)) × Ascending (handedIn i (callsOf es) t)
-  c23-rise = (told-words so si i run′ good-t, rise so si i x y seat (callsOf es) t good-t seat-t stays .0)
+  c23-rise = (told-words so si i run′ (at-opening .0), rise so si i seat (callsOf es) t (at-opening .0) (at-opening .2) kept .0)
 
-  -- a round behind the calls `pre`, the first that hands q or a later pair, while q is in the list: it hands q, and no other round hands that pair
-  pub c23-once : (pre post : List Call) → callsOf es ≡ pre ++ round x y ∷ post → (q : Pair)
+  -- a round over x and y behind the calls `pre`, the first that hands q or a later pair, while q is in the list: it hands q, and no other round hands that pair
+  pub c23-once : (x y : Which) (pre post : List Call) → callsOf es ≡ pre ++ round x y ∷ post → (q : Pair)
       → All (λ p. reaches q p ≡ false) (handedIn i pre t) → some (filter (reaches q) (handedBy i (round x y) (after pre t))) ≡ true
       → In q (joined (setOf x (after pre t)) (setOf y (after pre t)) a k)
       → In q (handedBy i (round x y) (after pre t)) × All (λ p. isPair q p ≡ false) (handedIn i pre t) × All (λ p. isPair q p ≡ false) (handedIn i post (next (round x y) (after pre t)))
-  c23-once pre post e q first here held = once so si i x y seat pre post t good-t refl seat-t (subst (Stays i x y) e stays) q first here held
+  c23-once x y pre post e q first here held = once so si i x y seat pre post t (at-opening .0) refl (at-opening .2) (subst (Kept i) e kept) q first here held
 
-  -- no save or delete of the account is done: the first min (rounds × limit) (all) pairs of the list
-  pub c23-count : Quiet a (callsOf es) t → let L = joined (setOf x t) (setOf y t) a k in handedIn i (callsOf es) t ≡ take (min (roundsIn (callsOf es) * limitAsked l) (length L)) L
-  c23-count quiet =
+  -- all rounds are over x and y, and no save or delete of the account is done: the first min (rounds × limit) (all) pairs of the list
+  pub c23-count : (x y : Which) → Over x y (callsOf es) → Quiet a (callsOf es) t
+      → let L = joined (setOf x t) (setOf y t) a k in handedIn i (callsOf es) t ≡ take (min (roundsIn (callsOf es) * limitAsked l) (length L)) L
+  c23-count x y over quiet =
       let L = joined (setOf x t) (setOf y t) a k in
-      counted so si i x y seat (callsOf es) t L good-t refl seat-t stays quiet ∙ ap (take (roundsIn (callsOf es) * limitAsked l)) (past-fresh L)
+      counted so si i x y seat (callsOf es) t L (at-opening .0) refl (at-opening .2) kept over quiet ∙ ap (take (roundsIn (callsOf es) * limitAsked l)) (past-fresh L)
       ∙ sym (take-min (roundsIn (callsOf es) * limitAsked l) L)

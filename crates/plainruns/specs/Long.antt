@@ -21,19 +21,33 @@ isPair q p = eqb (q .a .start) (p .a .start) && eqb (q .d .start) (p .d .start)
 unfoldable pub reaches : Pair → Pair → Bool
 reaches q p = isPair q p || later (q .a .start) (q .d .start) p
 
--- ONE OPENING of seat i, whose rounds are all over the sets x and y: no call closes the seat, no round is over others
-abbrev pub staysOpen : ℕ → Which → Which → Call → Bool
-staysOpen i x y (save w a r) = true
-staysOpen i x y (delete w a p) = true
-staysOpen i x y (look a o) = true
-staysOpen i x y (round u v) = isWhich u x && isWhich v y
-staysOpen i x y (openSeat j a k l) = true
-staysOpen i x y (closeSeat j) = not (eqb j i)
-staysOpen i x y (askPart j n) = true
-staysOpen i x y (askPartNo j n) = true
+-- ONE OPENING of seat i: no call closes the seat
+abbrev pub keepsOpen : ℕ → Call → Bool
+keepsOpen i (save w a r) = true
+keepsOpen i (delete w a p) = true
+keepsOpen i (look a o) = true
+keepsOpen i (round u v) = true
+keepsOpen i (openSeat j a k l) = true
+keepsOpen i (closeSeat j) = not (eqb j i)
+keepsOpen i (askPart j n) = true
+keepsOpen i (askPartNo j n) = true
 
-abbrev pub Stays : ℕ → Which → Which → List Call → Type 0
-Stays i x y cs = All (λ c. staysOpen i x y c ≡ true) cs
+abbrev pub Kept : ℕ → List Call → Type 0
+Kept i cs = All (λ c. keepsOpen i c ≡ true) cs
+
+-- and every round is over the sets x and y
+abbrev pub isOver : Which → Which → Call → Bool
+isOver x y (save w a r) = true
+isOver x y (delete w a p) = true
+isOver x y (look a o) = true
+isOver x y (round u v) = isWhich u x && isWhich v y
+isOver x y (openSeat j a k l) = true
+isOver x y (closeSeat j) = true
+isOver x y (askPart j n) = true
+isOver x y (askPartNo j n) = true
+
+abbrev pub Over : Which → Which → List Call → Type 0
+Over x y cs = All (λ c. isOver x y c ≡ true) cs
 
 -- what one call hands seat i, and what some calls do, one after the other
 abbrev pub handedBy : ℕ → Call → State → List Pair

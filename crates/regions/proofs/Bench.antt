@@ -1,13 +1,34 @@
--- Document 01's P1 to P12: the definitions give each row's answer, by computing it.
+-- Document 01's P1 to P12, and C-13's limits: the definitions give each answer, by computing it.
 -- Assumes nothing.
+use Prim.Native.Nat.{ℕ}
 use mathlib.Core.Path.{_≡_, refl}
-use mathlib.Core.List.{map}
-use Rattle.words.specs.Lists.{filter, some, lastOr, firstNo}
+use mathlib.Core.Bool.{Bool, true, false}
+use mathlib.Core.List.{List, [], _∷_, map}
+use lib.ListN.{replicate}
+use Rattle.words.specs.Lists.{filter, some, all, lastOr, firstNo}
+use Rattle.regions.specs.declared.Kind.the-variants.{Ancestor}
+use Rattle.regions.specs.declared.Mark.the-variants.{Fresh}
 use Rattle.regions.specs.Positions.{wellBound, wellFormed, endsBefore, contains, nested, crosses, holds, inside, isAbove}
 use Rattle.regions.specs.Sets.{of, isAt, startsBehind}
+use Rattle.regions.specs.Numbers.{DONE, LIMIT}
 use Rattle.regions.specs.Calls.{foreign, saveNo, pointNo, innermost, boundsNo}
+use Rattle.regions.specs.Desk.{markFits, stateFits, seatFits, deskFits, stateOpen, closed, openAt, limitAsked, openSeatNo}
 use Rattle.regions.specs.Bench.{ask, questions, answers}
 
 pub bench : map ask questions ≡ answers
 unfolding filter some lastOr firstNo wellBound wellFormed endsBefore contains nested crosses holds inside isAbove of isAt startsBehind foreign saveNo pointNo innermost boundsNo ask
 bench = refl
+
+-- what is stored for a limit asked: for 0 the house's, else what was asked
+pub limits-stored : map limitAsked (0 ∷ 1 ∷ 8 ∷ 9 ∷ 32 ∷ []) ≡ 8 ∷ 1 ∷ 8 ∷ 9 ∷ 32 ∷ []
+limits-stored = refl
+
+-- up to 32 may be asked for
+pub limits-asked : map (openSeatNo (replicate 8 closed) 0 0) (0 ∷ 8 ∷ 9 ∷ 32 ∷ 33 ∷ []) ≡ DONE ∷ DONE ∷ DONE ∷ DONE ∷ LIMIT ∷ []
+unfolding all firstNo stateFits deskFits stateOpen openSeatNo
+limits-asked = refl
+
+-- and up to 32 may be stored, but not 0
+pub limits-kept : map (λ (l : ℕ). seatFits (openAt (record { account = 0; kind = Ancestor; limit = l; mark = Fresh }))) (0 ∷ 8 ∷ 9 ∷ 32 ∷ 33 ∷ []) ≡ false ∷ true ∷ true ∷ true ∷ false ∷ []
+unfolding markFits stateFits
+limits-kept = refl

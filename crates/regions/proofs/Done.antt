@@ -12,6 +12,7 @@ use Rattle.words.proofs.Says.{true-so, so-true}
 use Rattle.regions.specs.declared.Region.{Region}
 use Rattle.regions.specs.declared.Seat.{Seat}
 use Rattle.regions.specs.Positions.{account, wellBound, wellFormed}
+use Rattle.regions.specs.Limits.{mostARound}
 use Rattle.regions.specs.Sets.{Set, heldAt, crossed, heldBy, shareOf}
 use Rattle.regions.specs.Calls.{foreign, openSetNo, saveNo, deleteNo, pointNo, boundsNo, joinNo}
 use Rattle.regions.specs.Desk.{deskFits, bufferFits, seatFits, seatAt, isOpen, limitOf, openDeskNo, openSeatNo, closeSeatNo, roundNo, partNo}
@@ -147,7 +148,7 @@ pub record MayOpen (desk : List Seat) (i a l : ℕ) : Type 0 where
   pub seat : i ≤ 7
   pub shut : isOpen (seatAt desk i) ≡ false
   pub range : a ≤ 15
-  pub limit : l ≤ 32
+  pub limit : l ≤ mostARound
 
 pub open-seat-done : (desk : List Seat) (i a l : ℕ) → openSeatNo desk i a l ≡ 0 → MayOpen desk i a l
 unfolding openSeatNo
@@ -155,7 +156,7 @@ open-seat-done desk i a l e =
     let u = first-0 (not (deskFits desk)) 10 _ e in
     let v = first-0 (ltb 7 i || isOpen (seatAt desk i)) 8 _ (u .1) in
     let w = first-0 (ltb 15 a) 2 _ (v .1) in
-    let x = first-0 (ltb 32 l) 9 _ (w .1) in
+    let x = first-0 (ltb mostARound l) 9 _ (w .1) in
     record {
       fits = desk-fits desk (not-false _ (u .0));
       seat = nlt-of _ _ (or-false-left (ltb 7 i) _ (v .0));
@@ -166,7 +167,7 @@ open-seat-done desk i a l e =
 
 pub done-open-seat : (desk : List Seat) (i a l : ℕ) → MayOpen desk i a l → openSeatNo desk i a l ≡ 0
 unfolding openSeatNo firstNo
-done-open-seat desk i a l m = rw (fits-desk desk (m .fits), lt-no 7 i (m .seat), m .shut, lt-no 15 a (m .range), lt-no 32 l (m .limit))
+done-open-seat desk i a l m = rw (fits-desk desk (m .fits), lt-no 7 i (m .seat), m .shut, lt-no 15 a (m .range), lt-no mostARound l (m .limit))
 
 pub record MayClose (desk : List Seat) (i : ℕ) : Type 0 where
   pub fits : DeskOk desk

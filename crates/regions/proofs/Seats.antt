@@ -18,6 +18,7 @@ use Rattle.regions.specs.declared.Open.{Open}
 use Rattle.regions.specs.declared.State.{State}
 use Rattle.regions.specs.declared.State.the-variants.{Closed, Open as Opened}
 use Rattle.regions.specs.declared.Seat.{Seat}
+use Rattle.regions.specs.Limits.{houseLimit, mostARound}
 use Rattle.regions.specs.Sets.{Set}
 use Rattle.regions.specs.Calls.{joined, pairWords}
 use Rattle.regions.specs.Desk.{isPast, past, markFits, stateFits, seatFits, limitAsked, opened, closed, seatAt, stateLimit, stateHanded, handed, handedWords, stateTurned, turned, poured}
@@ -29,25 +30,25 @@ use Rattle.regions.proofs.Fits.{pair-wide}
 pub record OpenOk (o : Open) : Type 0 where
   pub range : o .account ≤ 15
   pub low : 1 ≤ o .limit
-  pub high : o .limit ≤ 32
+  pub high : o .limit ≤ mostARound
   pub mark-in : markFits (o .account) (o .mark) ≡ true
 
 pub open-ok : (o : Open) → stateFits (Opened o) ≡ true → OpenOk o
 unfolding stateFits
 open-ok o h =
-    let b = leb (o .account) 15 && (leb 1 (o .limit) && leb (o .limit) 32) in
-    let m = and-says (le-says (o .account) 15) (and-says (le-says 1 (o .limit)) (le-says (o .limit) 32)) .yes-so (and-left b (markFits (o .account) (o .mark)) (T-of h)) in
+    let b = leb (o .account) 15 && (leb 1 (o .limit) && leb (o .limit) mostARound) in
+    let m = and-says (le-says (o .account) 15) (and-says (le-says 1 (o .limit)) (le-says (o .limit) mostARound)) .yes-so (and-left b (markFits (o .account) (o .mark)) (T-of h)) in
     record { range = m .0; low = m .1 .0; high = m .1 .1; mark-in = of-T _ (and-right b (markFits (o .account) (o .mark)) (T-of h)) }
 
 pub ok-open : (o : Open) → OpenOk o → stateFits (Opened o) ≡ true
 unfolding stateFits
-ok-open o k = rw (le-yes (o .account) 15 (k .range), le-yes 1 (o .limit) (k .low), le-yes (o .limit) 32 (k .high)) (k .mark-in)
+ok-open o k = rw (le-yes (o .account) 15 (k .range), le-yes 1 (o .limit) (k .low), le-yes (o .limit) mostARound (k .high)) (k .mark-in)
 
-pub opened-fits : (a : ℕ) (k : Kind) (l : ℕ) → a ≤ 15 → l ≤ 32 → seatFits (opened a k l) ≡ true
+pub opened-fits : (a : ℕ) (k : Kind) (l : ℕ) → a ≤ 15 → l ≤ mostARound → seatFits (opened a k l) ≡ true
 unfolding markFits
 opened-fits a k l h m =
-    let f : (1 ≤ limitAsked l) × (limitAsked l ≤ 32) =
-    either (λ x. (1 ≤ x) × (x ≤ 32)) (eqb l 0) 32 l (λ e. omega arith) (λ e. let z = ne-of l 0 e in omega arith) in
+    let f : (1 ≤ limitAsked l) × (limitAsked l ≤ mostARound) =
+    either (λ x. (1 ≤ x) × (x ≤ mostARound)) (eqb l 0) houseLimit l (λ e. omega arith) (λ e. let z = ne-of l 0 e in omega arith) in
     ok-open _ (record { range = h; low = f .0; high = f .1; mark-in = refl })
 
 pub closed-fits : seatFits closed ≡ true
@@ -89,7 +90,7 @@ unfolding stateHanded stateLimit
 handed-limit X Y Closed = omega arith
 handed-limit X Y (Opened o) = omega (arith, length-take (o .limit) (past (o .mark) (joined X Y (o .account) (o .kind))))
 
-pub limit-small : (t : State) → stateFits t ≡ true → stateLimit t ≤ 32
+pub limit-small : (t : State) → stateFits t ≡ true → stateLimit t ≤ mostARound
 unfolding stateLimit
 limit-small Closed h = omega arith
 limit-small (Opened o) h = open-ok o h .high

@@ -31,10 +31,11 @@ seatCount = 8
 abbrev pub lastSeat : ℕ
 lastSeat = 7
 
--- what a seat gets that asks for limit 0; and the most pairs that any seat may ask for in a round
+-- the pairs a round of a seat that asks for limit 0
 abbrev pub houseLimit : ℕ
-houseLimit = 32
+houseLimit = 8
 
+-- the most pairs a round that a seat may ask for, and may have stored
 abbrev pub mostARound : ℕ
 mostARound = 32
 

@@ -49,12 +49,13 @@ pub const LAST_LEVEL: u32 = 255;
 // the regions of a set at most, which its shares may come to together,
 pub const MOST_REGIONS: u32 = 500;
 
-// seats, the limit of who asks for none, the most pairs a round,
+// seats,
 pub const SEAT_COUNT: usize = 8;
 
 pub const LAST_SEAT: u32 = 7;
 
-pub const HOUSE_LIMIT: u32 = 32;
+// the pairs a round of a seat that asks for limit 0, and the most that a seat may ask for,
+pub const HOUSE_LIMIT: u32 = 8;
 
 pub const MOST_A_ROUND: u32 = 32;
 

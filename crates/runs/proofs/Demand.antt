@@ -5,25 +5,30 @@ use Prim.Native.Nat.{ℕ, _+_, _*_, _<_, _≤_}
 use mathlib.Core.Path.{_≡_}
 use mathlib.Core.Logic.{_↔_}
 use mathlib.Core.Bool.{Bool, true, false}
-use mathlib.Core.List.{List, []}
+use mathlib.Core.List.{List, [], _++_}
 use lib.ListN.{length, drop, getD}
 use Rattle.words.specs.Lists.{filter, In}
 use Rattle.regions.specs.declared.Region.{Region}
+use Rattle.regions.specs.declared.Kind.{Kind}
 use Rattle.regions.specs.declared.Open.{Open}
 use Rattle.regions.specs.Positions.{account, wellFormed}
 use Rattle.regions.specs.Sets.{Set, isAt, only, heldAt, crossed, heldBy}
 use Rattle.regions.specs.Calls.{Pair, joined}
+use Rattle.regions.specs.Desk.{limitAsked}
 use Rattle.regions.specs.Sound.{Sound, Ascending}
 use Rattle.image.specs.Read.{setOf as setIn}
 use Rattle.plainruns.specs.Calls.{Which, sharesGiven, Fair, Call, Shown, Answer, Step, Done, callsOf, shareGiven, byAccount, leftOut, Same, Agree, left, Served, Passed, next}
 use Rattle.plainruns.specs.Calls.Which.{outer, inner}
-use Rattle.plainruns.specs.Calls.Call.{save, round}
+use Rattle.plainruns.specs.Calls.Call.{save, round, openSeat}
 use Rattle.plainruns.specs.Held.{heldFrom, Stands, wroteFrom}
-use Rattle.plainruns.proofs.Good.{good-reached, never}
+use Rattle.plainruns.specs.Long.{Kept}
+use Rattle.plainruns.proofs.Good.{good-reached, good-next, never}
 use Rattle.plainruns.proofs.Demand.{theorem-a, theorem-b, theorem-b-rest, theorem-c, theorem-c-whole}
 use Rattle.plainruns.proofs.Held.{held-at, theorem-held, theorem-sound, theorem-few, theorem-wrote}
-use Rattle.runs.specs.Calls.{Lent, imageOf, Valid, Does, Runs, Ready, meaning, unwritten, RoundHands}
-use Rattle.runs.proofs.Meaning.{means, begins, always-valid, meant}
+use Rattle.plainruns.proofs.LongRun.{stored}
+use Rattle.runs.specs.Calls.{Lent, imageOf, Valid, Does, Runs, Ready, meaning, unwritten, RoundHands, HandsUpTo}
+use Rattle.runs.specs.Calls.Runs.{stop, go}
+use Rattle.runs.proofs.Meaning.{means, means-runs, begins, always-valid, meant}
 
 -- DEMAND 2: both images are valid, and mean exactly the regions whose last accepted save or delete is their save, with the shares given
 pub demand-valid : (so si : List ℕ) {l m : Lent} {ds : List Done} → Ready so si l → Runs l ds m → Valid m
@@ -126,3 +131,32 @@ demand-b-rest so si {l₀ = l₀} r run outer outer o = theorem-b-rest so si (be
 demand-b-rest so si {l₀ = l₀} r run outer inner o = theorem-b-rest so si (begins so si l₀ r .0) (meant so si r run .1) outer inner o
 demand-b-rest so si {l₀ = l₀} r run inner outer o = theorem-b-rest so si (begins so si l₀ r .0) (meant so si r run .1) inner outer o
 demand-b-rest so si {l₀ = l₀} r run inner inner o = theorem-b-rest so si (begins so si l₀ r .0) (meant so si r run .1) inner inner o
+
+-- THE LIMIT of (b) is the one stored. Seat i is opened, and no call of es closes it: every round behind them hands it as many as were stored for it at its
+-- opening, or all that are left if these are fewer
+runs-on : {l m n : Lent} {ds es : List Done} → Runs l ds m → Runs m es n → Runs l (ds ++ es) n
+runs-on stop more = more
+runs-on (go st run) more = go st (runs-on run more)
+
+pub demand-b-opened : (so si : List ℕ) {l₀ l l₁ l₂ m : Lent} {ds es : List Done} {q z : Answer} → Ready so si l₀ → Runs l₀ ds l
+    → (i a : ℕ) (k : Kind) (asked : ℕ) → Does l (openSeat i a k asked) q l₁ → q .shown .number ≡ 0 → Runs l₁ es l₂ → Kept i (callsOf es)
+    → (x y : Which) → Does l₂ (round x y) z m → HandsUpTo (limitAsked asked) (setIn (imageOf x l₂)) (setIn (imageOf y l₂)) l₂ (z .shown) i a k
+demand-b-opened so si {l₀ = l₀} {l = l} {q = q} r run i a k asked st done more kept x y rd =
+    let n = meant so si r run .0 in
+    let g = good-reached so si (begins so si l₀ r .0) (meant so si r run .1) in
+    let u = means so si n st g (always-valid so si r run) in
+    let t = next (openSeat i a k asked) (meaning l n) in
+    let on = means-runs so si (t .wrote) more (rw (u .0 .leaves) (good-next so si (openSeat i a k asked) (meaning l n) g)) (u .1) .0 .1 in
+    let s = stored so si g i a k asked (u .0) done on kept in
+    let o : Open = record { account = a; kind = k; limit = limitAsked asked; mark = s .1 } in
+    record {
+      mark = s .1;
+      seat-is = s .2;
+      told-count = demand-b so si r (runs-on run (go {d = record { call = openSeat i a k asked; told = q }} st more)) x y rd .2 i o (s .0) (s .2) .told-count;
+    }
+
+-- who asks for limit 0 is handed eight, or all that are left if these are fewer
+pub demand-b-house : (so si : List ℕ) {l₀ l l₁ l₂ m : Lent} {ds es : List Done} {q z : Answer} → Ready so si l₀ → Runs l₀ ds l
+    → (i a : ℕ) (k : Kind) → Does l (openSeat i a k 0) q l₁ → q .shown .number ≡ 0 → Runs l₁ es l₂ → Kept i (callsOf es)
+    → (x y : Which) → Does l₂ (round x y) z m → HandsUpTo 8 (setIn (imageOf x l₂)) (setIn (imageOf y l₂)) l₂ (z .shown) i a k
+demand-b-house so si r run i a k st done more kept x y rd = demand-b-opened so si r run i a k 0 st done more kept x y rd

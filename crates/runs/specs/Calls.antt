@@ -4,11 +4,12 @@ use Prim.Native.Nat.{ℕ, suc, _*_, _<_, min}
 use mathlib.Core.Path.{_≡_}
 use mathlib.Core.Bool.{Bool, true, false}
 use mathlib.Core.List.{List, [], _∷_}
-use lib.ListN.{length, take, drop, replicate}
+use lib.ListN.{length, take, drop, getD, replicate}
 use denote.Ref.{RefT, now}
 use Rattle.regions.specs.Limits.{accountCount, bufferWords}
 use Rattle.regions.specs.declared.Region.{Region}
 use Rattle.regions.specs.declared.Kind.{Kind}
+use Rattle.regions.specs.declared.Mark.{Mark}
 use Rattle.regions.specs.declared.Open.{Open}
 use Rattle.regions.specs.declared.Seat.{Seat}
 use Rattle.regions.specs.Sets.{Set}
@@ -124,3 +125,10 @@ RoundHands X Y l m z =
     × ((i : ℕ) (o : Open) → i < 8 → seatAt (l .desk) i ≡ openAt o
     → Served X Y (meaning l unwritten) (meaning m unwritten) z i o (min (o .limit) (length (left X Y o))) (take (o .limit) (left X Y o)))
     × ((i : ℕ) → i < 8 → seatAt (l .desk) i ≡ closed → Passed (meaning l unwritten) (meaning m unwritten) z i)
+
+-- seat i has been opened for an account and a kind, with that limit stored, and is open still: a round over X and Y, from l, tells as many pairs as its
+-- limit, or all that are left if these are fewer
+pub record HandsUpTo (limit : ℕ) (X Y : Set) (l : Lent) (z : Shown) (i a : ℕ) (k : Kind) : Type 0 where
+  pub mark : Mark
+  pub seat-is : seatAt (l .desk) i ≡ openAt (record { account = a; kind = k; limit = limit; mark = mark })
+  pub told-count : getD (z .counts) i 0 ≡ min limit (length (left X Y (record { account = a; kind = k; limit = limit; mark = mark })))

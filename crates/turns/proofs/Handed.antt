@@ -10,6 +10,7 @@ use lib.ListN.{length, take, drop, set, length-take, length-drop, take-append-dr
 use lib.Seq.{sets, sets-eq, length-sets, drop-append-le, drop-drop}
 use borrow.Rule.Slice.PartMut.{midOf, putMid}
 use Rattle.words.proofs.Written.{flat-long}
+use Rattle.regions.specs.Limits.{mostARound}
 use Rattle.regions.specs.Sets.{Set}
 use Rattle.regions.specs.Calls.{pairWords, written, countWritten, joined}
 use Rattle.regions.specs.Desk.{openAt, stateFits, seatWord, past, markBehind, stateHanded, handedWords, stateTurned}
@@ -60,7 +61,7 @@ hands X Y o b i k all n w e h f joins g z =
       words = ap (putMid (128 * i) k b) (j .words ∙ ap (λ (m : ℕ). sets (midOf (128 * i) k b) 0 (flatMap pairWords (take m qs))) room) ∙ put-part (128 * i) k b (flatMap pairWords (take (o .limit) qs)) fit few;
     }
 
-pub hands-few : (X Y : Set) (o : Open) (b : List ℕ) (i n : ℕ) (w : List ℕ) → stateFits (Opened o) ≡ true → Hands X Y o b i n w → n ≤ 32
+pub hands-few : (X Y : Set) (o : Open) (b : List ℕ) (i n : ℕ) (w : List ℕ) → stateFits (Opened o) ≡ true → Hands X Y o b i n w → n ≤ mostARound
 hands-few X Y o b i n w f h = let e = h .count in let l = handed-limit X Y (Opened o) in let m = limit-small (Opened o) f in omega arith
 
 pub hands-long : (X Y : Set) (o : Open) (b : List ℕ) (i n : ℕ) (w : List ℕ) → length b ≡ 1024 → Hands X Y o b i n w → length w ≡ 1024

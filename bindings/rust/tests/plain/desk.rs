@@ -7,6 +7,11 @@ pub const SEAT: u32 = 9;
 pub const LIMIT: u32 = 10;
 pub const DESK: u32 = 11;
 
+/// What is stored for who asks for limit 0.
+const HOUSE_LIMIT: u32 = 8;
+/// What may be asked for and stored at most.
+const MOST_A_ROUND: u32 = 32;
+
 const CLOSED: FlatSeat = FlatSeat { opened: 0, account: 0, kind: 0, limit: 0, marked: 0, a: 0, d: 0 };
 
 /// A seat as a call tells it: numbers that mean nothing are 0, and 1 stands for "not 0".
@@ -25,7 +30,7 @@ fn all_told(desk: &FlatDesk) -> FlatDesk {
 pub fn fits(desk: &FlatDesk) -> bool {
     desk.seats.iter().filter(|s| s.opened != 0).all(|s| {
         let mark = s.marked == 0 || (account_of(s.a) == s.account && account_of(s.d) == s.account);
-        s.account <= 15 && s.limit >= 1 && s.limit <= 32 && mark
+        s.account <= 15 && s.limit >= 1 && s.limit <= MOST_A_ROUND && mark
     })
 }
 
@@ -38,14 +43,14 @@ pub fn open_seat(desk: &FlatDesk, i: u32, account: u32, kind: u32, limit: u32) -
         _ if !fits(desk) => DESK,
         _ if i > 7 || desk.seats[i as usize].opened != 0 => SEAT,
         _ if account > 15 => ACCOUNT,
-        _ if limit > 32 => LIMIT,
+        _ if limit > MOST_A_ROUND => LIMIT,
         _ => 0,
     };
     if number != 0 {
         return (number, *desk);
     }
     let mut after = all_told(desk);
-    let limit = if limit == 0 { 32 } else { limit };
+    let limit = if limit == 0 { HOUSE_LIMIT } else { limit };
     after.seats[i as usize] = FlatSeat { opened: 1, account, kind: kind.min(1), limit, ..CLOSED };
     (0, after)
 }
