@@ -72,7 +72,7 @@ module _ (so si : List ℕ) (i : ℕ) where
   seat-after o (askPart j n) s g e h = e ∙ moved-none o
   seat-after o (askPartNo j n) s g e h = e ∙ moved-none o
 
-  pub seat-by : (o : Open) (cs : List Call) (s : State) → Good so si s → seatAt (s .desk) i ≡ openAt o → Kept i cs
+  seat-by : (o : Open) (cs : List Call) (s : State) → Good so si s → seatAt (s .desk) i ≡ openAt o → Kept i cs
       → seatAt (after cs s .desk) i ≡ openAt (moved o (handedIn i cs s))
   seat-by o [] s g e h = e ∙ moved-none o
   seat-by o (c ∷ cs) s g e h =
@@ -354,7 +354,7 @@ seat-opened so si {s = s} g i a k l st done =
     let e : openSeatNo (s .desk) i a l ≡ 0 = sym (ap (λ (q : Shown). q .number) (st .answers)) ∙ done in
     let c = open-seat-done (s .desk) i a l e .seat in
     let n = g .desk-good .eight in (
-      (rw (st .leaves) (good-next so si (openSeat i a k l) s g)),
+      rw (st .leaves) (good-next so si (openSeat i a k l) s g),
       omega arith,
       ap (λ (q : State). seatAt (q .desk) i) (st .leaves)
           ∙ ap (λ b. seatAt (cond b (behindOpen i (opened a k l) s) s .desk) i) (eq-yes (openSeatNo (s .desk) i a l) 0 e)
