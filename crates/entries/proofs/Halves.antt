@@ -1,19 +1,19 @@
 -- The two halves of a save and of a delete: the leaf's words, and the owner's list with its page's words.
 -- Assumes nothing.
-use Prim.Native.Nat.{ℕ, suc, _+_, _-_, _≤_, _<_}
+use Prim.Native.Nat.{ℕ, suc, _+_, _*_, _-_, _≤_, _<_}
 use mathlib.Core.Path.{_≡_, refl, sym, ap, ap₂, _∙_, subst}
 use mathlib.Core.Bool.{Bool, true, false, cond}
 use mathlib.Core.List.{List, [], _∷_, _++_}
 use lib.Dec.{ltb}
 use lib.ListN.{length, getD, take, drop, take-append-drop, length-append}
-use lib.Seq.{drop-drop}
+use lib.Seq.{sets, length-sets, drop-drop}
 use native.Mathlib.Omega.{arith}
 use native.Mathlib.Decide.{ℕ-discrete}
 use Rattle.words.specs.Lists.{count, takeWhile, dropWhile}
 use Rattle.words.proofs.Listed.{while-join}
 use Rattle.words.proofs.Counted.{count-append, count-same, count-other, one-at-most}
 use Rattle.regions.specs.declared.Region.{Region}
-use Rattle.pages.specs.Layout.{pageOf, markOf, fillOf, nextOf, keyWord, recordUsed}
+use Rattle.pages.specs.Layout.{pageOf, markOf, fillOf, nextOf, entryWord, keyWord, recordUsed}
 use Rattle.pages.specs.declared.KeyWords.{KeyWords}
 use Rattle.xrtree.specs.Tree.{Entry, Key, Leaf, recordPlaces}
 use Rattle.xrtree.specs.Claims.{pageAt}
@@ -23,9 +23,14 @@ use Rattle.image.specs.Decode.{keyWordsAt}
 use Rattle.image.proofs.Listings.{entries-long}
 use Rattle.owners.specs.Owners.{nobody}
 use Rattle.owners.specs.declared.Spot.{Spot}
-use Rattle.store.specs.Store.{putPage}
+use Rattle.pagewords.specs.Words.{copiedIn, entryWords, keyList}
+use Rattle.store.specs.Store.{putPage, putEntryAt, putKeyAt, setFill}
 use Rattle.store.proofs.Frames.{put-page-record-used}
+use Rattle.store.proofs.Within.{page-long, page-own, move-within, entry-within, fill-within, key-own}
 use Rattle.newpages.specs.Pages.{putIn, takenOut, putFor, newEntry, entriesOf, sparesOf, keysOf, childrenOf, IsLeaf, IsInner}
+use Rattle.newpages.proofs.Runs.{copy-long}
+use Rattle.newpages.proofs.Leaves.{leafWith, leaf-with-long, leaf-with-is}
+use Rattle.newpages.proofs.Inners.{set-key-is}
 use Rattle.holding.specs.Held.{KeyHeld}
 use Rattle.records.specs.Touched.{Touched, inUse, Uses, AllUsed, Ends}
 use Rattle.records.specs.Kept.{Came, Went, frontPlaces, backPlaces, enteredKey}
@@ -109,16 +114,56 @@ out-short s es =
     less [] = omega arith
     less (x ∷ xs) = omega arith
 
-pub put-leaf-done : (w w₁ : List ℕ) (p i flag : ℕ) (r : Region) (ws with : List ℕ) → i ≡ entriesBefore (pageOf w p) (r .start) → fillOf (pageOf w p) ≤ 8 → ws ≡ pageOf w p
-    → IsLeaf with (markOf ws) (suc (fillOf ws)) (nextOf ws) (putIn i (newEntry r flag) (entriesOf ws)) (putIn i 0 (sparesOf ws)) → length with ≡ 57 → w₁ ≡ putPage w p with
-    → (a : LeafReady w p (r .start)) → LeafStep w w₁ (renew (putEntry (newEntry r flag))) (r .start) (a .h) (a .t)
-put-leaf-done w w₁ p i flag r ws with e few k is fits st a =
+-- an entry put in place: the page is stored with it
+in-place : (w : List ℕ) (p i : ℕ) (r : Region) (flag : ℕ) → length w ≡ 12288 → p ≤ 160 → fillOf (pageOf w p) ≤ 8 → i ≤ fillOf (pageOf w p)
+    → setFill (putEntryAt (copiedIn w (57 * p + (entryWord i + 6)) w (57 * p + entryWord i) (6 * (fillOf (pageOf w p) - i))) p i r flag) p (suc (fillOf (pageOf w p)))
+    ≡ putPage w p (leafWith (pageOf w p) i r flag)
+in-place w p i r flag long high few h =
+    ap (λ v. setFill (putEntryAt v p i r flag) p (suc n)) (ap (λ v. copiedIn v (57 * p + (entryWord i + 6)) v (57 * p + entryWord i) m) (sym (page-own w p long high)) ∙ move-within w p ws fits long high (entryWord i) m 6 (omega arith))
+    ∙ ap (λ v. setFill v p (suc n)) (entry-within w p moved moved-fits i r flag (omega arith))
+    ∙ fill-within w p (sets moved (entryWord i) (entryWords r flag)) (length-sets moved (entryWord i) (entryWords r flag) ∙ moved-fits) (suc n)
+  where
+    ws : List ℕ
+    ws = pageOf w p
+
+    n : ℕ
+    n = fillOf ws
+
+    m : ℕ
+    m = 6 * (n - i)
+
+    moved : List ℕ
+    moved = copiedIn ws (entryWord i + 6) ws (entryWord i) m
+
+    fits : length ws ≡ 57
+    fits = page-long w p long high
+
+    moved-fits : length moved ≡ 57
+    moved-fits = copy-long ws (entryWord i + 6) ws (entryWord i) m ∙ fits
+
+-- there is room for it, and its page is one of the image
+pub room-for : (w : List ℕ) (p s i : ℕ) → i ≡ entriesBefore (pageOf w p) s → LeafReady w p s × (fillOf (pageOf w p) ≤ 8) → (i ≤ fillOf (pageOf w p)) × (fillOf (pageOf w p) ≤ 8) × (1 ≤ p) × (p ≤ 160)
+room-for w p s i e a = let r = ready-range w p s (a .0) in (omega (arith, before-most (pageOf w p) s), a .1, r .0, r .1)
+
+-- b is the entry's first word, m how many words were moved, j and n the number of the entry and the fill that were written
+pub put-leaf-done : (w w₁ w₂ w₃ : List ℕ) (p i b m j n flag : ℕ) (r : Region) → i ≡ entriesBefore (pageOf w p) (r .start) → fillOf (pageOf w p) ≤ 8
+    → b ≡ 57 * p + entryWord i → m ≡ 6 * (fillOf (pageOf w p) - i) → w₁ ≡ copiedIn w (b + 6) w b m → j ≡ i → w₂ ≡ putEntryAt w₁ p j r flag → n ≡ suc (fillOf (pageOf w p)) → w₃ ≡ setFill w₂ p n
+    → (a : LeafReady w p (r .start)) → LeafStep w w₃ (renew (putEntry (newEntry r flag))) (r .start) (a .h) (a .t)
+put-leaf-done w w₁ w₂ w₃ p i b m j n flag r e few eb em e₁ ej e₂ en e₃ a =
     let s = r .start in
+    let ws = pageOf w p in
     let es = leafOn s (a .h) (a .t) .entries in
-    let is′ = subst (λ v. IsLeaf with (markOf v) (suc (fillOf v)) (nextOf v) (putIn i (newEntry r flag) (entriesOf v)) (putIn i 0 (sparesOf v))) k is in
+    let high = ready-range w p s a .1 in
+    let h : i ≤ fillOf ws = omega (arith, before-most ws s) in
+    let c : b + 6 ≡ 57 * p + (entryWord i + 6) = omega arith in
+    let fits = page-long w p (a .lies .long) high in
+    let st : w₃ ≡ putPage w p (leafWith ws i r flag) =
+    e₃ ∙ ap₂ (λ v k. setFill v p k) (e₂ ∙ ap₂ (λ v k. putEntryAt v p k r flag) (e₁ ∙ rw (c, eb, em)) ej) en ∙ in-place w p i r flag (a .lies .long) high few h
+    in
     subst (λ v. LeafStep w v (renew (putEntry (newEntry r flag))) s (a .h) (a .t)) (sym st)
-    (leaf-done w p s a (putEntry (newEntry r flag)) with _ _ _ is′
-    (ap₂ (λ n x. putIn n (newEntry r flag) x) (e ∙ ready-rank w p s a) (ready-entries w p s a) ∙ put-is (newEntry r flag) es) fits
+    (leaf-done w p s a (putEntry (newEntry r flag)) (leafWith ws i r flag) _ _ _ (leaf-with-is ws fits i r flag few h)
+    (ap₂ (λ n x. putIn n (newEntry r flag) x) (e ∙ ready-rank w p s a) (ready-entries w p s a) ∙ put-is (newEntry r flag) es)
+    (leaf-with-long ws i r flag ∙ fits)
     (omega (arith, long-put (newEntry r flag) es, ready-fill w p s a)))
 
 pub take-leaf-done : (w w₁ : List ℕ) (p s i : ℕ) (ws without : List ℕ) → i ≡ entriesBefore (pageOf w p) s → ws ≡ pageOf w p
@@ -193,7 +238,7 @@ module _ (w : List ℕ) (x : Spot) (r : Region) (a : OwnerReady w x r) (n : x .f
       used-of (count y records) (recordUsed w y) (lies-there .records .once y (u .0) (u .1)) (omega (arith, listed-places y)))
 
   -- the key's words as they were read
-  module _ (k : KeyWords) (ws : List ℕ) (is : (k .key ≡ getD (pageOf w (x .page)) (keyWord (x .key)) 0) × (k .start ≡ getD (pageOf w (x .page)) (keyWord (x .key) + 1) 0)
+  module _ (k : KeyWords) (is : (k .key ≡ getD (pageOf w (x .page)) (keyWord (x .key)) 0) × (k .start ≡ getD (pageOf w (x .page)) (keyWord (x .key) + 1) 0)
       × (k .end ≡ getD (pageOf w (x .page)) (keyWord (x .key) + 2) 0) × (k .head ≡ getD (pageOf w (x .page)) (keyWord (x .key) + 3) 0)) where
     pub read-words : KeyHeld w k (o .key)
     read-words =
@@ -203,23 +248,38 @@ module _ (w : List ℕ) (x : Spot) (r : Region) (a : OwnerReady w x r) (n : x .f
     pub read-ends : Ends w (k .head)
     read-ends = held-ends w k (o .key) read-words
 
-    -- its list is changed, its page stored
-    module _ (w₁ new ts taken freed : List ℕ) (t : KeyWords) (g : List Region → List Region) (places : Key → List ℕ)
+    -- its list is changed, its words are written
+    module _ (w₁ ts taken freed : List ℕ) (t : KeyWords) (g : List Region → List Region) (places : Key → List ℕ)
         (touched : Touched w w₁ ts) (clear : (y : ℕ) → 0 < count y records → count y (o .key .places) ≡ 0 → count y ts ≡ 0) (uses : Uses w w₁ taken freed)
         (moves : (y : ℕ) → count y (places (o .key)) + count y freed ≡ count y (o .key .places) + count y taken) (inside : (y : ℕ) → 0 < count y taken → (1 ≤ y) × (y ≤ 500))
-        (held : KeyHeld w₁ t (keyWith (o .key .key) (places (o .key)) (g (o .key .list)))) (fits : length new ≡ 57) (load : ws ≡ pageOf w (x .page))
-        (page-is : IsInner new (markOf ws) (fillOf ws) (nextOf ws) (putFor (x .key) t (keysOf ws)) (childrenOf ws)) where
-      list-done : ListStep w (putPage w₁ (x .page) new) g r (a .h) (a .t)
+        (held : KeyHeld w₁ t (keyWith (o .key .key) (places (o .key)) (g (o .key .list)))) where
+      abbrev ws : List ℕ
+      ws = pageOf w (x .page)
+
+      abbrev new : List ℕ
+      new = sets ws (keyWord (x .key)) (keyList t)
+
+      ws-long : length ws ≡ 57
+      ws-long = page-long w (x .page) (a .lies .long) (spot-range .1)
+
+      written : putKeyAt w₁ (x .page) (x .key) t ≡ putPage w₁ (x .page) new
+      written =
+          key-own w₁ (x .page) (touched .long ∙ a .lies .long) (spot-range .1) (x .key) t (omega (arith, spot-fill))
+          ∙ ap (λ v. putPage w₁ (x .page) (sets v (keyWord (x .key)) (keyList t))) (touched .pages (x .page) (spot-range .1))
+
+      page-is : IsInner new (markOf ws) (fillOf ws) (nextOf ws) (putFor (length (o .pre)) t (keysOf ws)) (childrenOf ws)
+      page-is = subst (λ i. IsInner new (markOf ws) (fillOf ws) (nextOf ws) (putFor i t (keysOf ws)) (childrenOf ws)) (sym (o .index)) (set-key-is ws ws-long (x .key) t (spot-fill .0) (spot-fill .1))
+
+      list-done : ListStep w (putKeyAt w₁ (x .page) (x .key) t) g r (a .h) (a .t)
       list-done =
-          let is′ = subst (λ i. IsInner new (markOf (pageOf w (x .page))) (fillOf (pageOf w (x .page))) (nextOf (pageOf w (x .page))) (putFor i t (keysOf (pageOf w (x .page)))) (childrenOf (pageOf w (x .page))))
-          (sym (o .index)) (subst (λ v. IsInner new (markOf v) (fillOf v) (nextOf v) (putFor (x .key) t (keysOf v)) (childrenOf v)) load page-is) in
           let st = own-step (o .around) (x .page) (o .pre) (o .kid) (o .post) (o .last) w (o .key) lies-there w₁ new ts taken freed t
-          (keyWith (o .key .key) (places (o .key)) (g (o .key .list))) touched clear uses moves inside held fits is′ in
-          record {
+          (keyWith (o .key .key) (places (o .key)) (g (o .key .list))) touched clear uses moves inside held (length-sets ws (keyWord (x .key)) (keyList t) ∙ ws-long) page-is in
+          subst (λ v. ListStep w v g r (a .h) (a .t)) (sym written)
+          (record {
             places = places;
             step = subst (λ u. Stepped w (putPage w₁ (x .page) new) (a .h) u (own g places r (a .h) (a .t))) (sym (o .was))
                 (subst (Stepped w (putPage w₁ (x .page) new) (a .h) _) (sym (o .becomes g places)) st);
-          }
+          })
 
 -- 1 for a record in use, at most
 used-one : (w : List ℕ) (y : ℕ) → inUse w y ≤ 1
@@ -241,13 +301,13 @@ no-count y = refl
 one-count : (y p : ℕ) → 0 < count y (p ∷ []) → y ≡ p
 one-count y p l = elim (ℕ-discrete y p) [ yes e ↦ e | no e ↦ absurd (omega (arith, count-other y p [] e, no-count y)) ]
 
-module _ (w w₁ w₂ : List ℕ) (x : Spot) (r : Region) (a : OwnerReady w x r) (n : x .flag ≡ 0 → ⊥) (ws new : List ℕ) (k t : KeyWords) (load : ws ≡ pageOf w (x .page))
+module _ (w w₁ w₂ : List ℕ) (x : Spot) (r : Region) (a : OwnerReady w x r) (n : x .flag ≡ 0 → ⊥) (k t : KeyWords)
     (is : (k .key ≡ getD (pageOf w (x .page)) (keyWord (x .key)) 0) × (k .start ≡ getD (pageOf w (x .page)) (keyWord (x .key) + 1) 0)
     × (k .end ≡ getD (pageOf w (x .page)) (keyWord (x .key) + 2) 0) × (k .head ≡ getD (pageOf w (x .page)) (keyWord (x .key) + 3) 0))
-    (fits : length new ≡ 57) (page-is : IsInner new (markOf ws) (fillOf ws) (nextOf ws) (putFor (x .key) t (keysOf ws)) (childrenOf ws)) (st : w₂ ≡ putPage w₁ (x .page) new) where
+    (st : w₂ ≡ putKeyAt w₁ (x .page) (x .key) t) where
   -- SAVE
   pub enter-done : ((key : Key) → KeyHeld w k key → AllUsed w (key .places) → Came w w₁ (key .places) (enteredKey key r) t) → ListStep w w₂ (put r) r (a .h) (a .t)
-  enter-done f = go (f (o w x r a n .key) (read-words w x r a n k ws is) (spot-used w x r a n))
+  enter-done f = go (f (o w x r a n .key) (read-words w x r a n k is) (spot-used w x r a n))
     where
       go : Came w w₁ (o w x r a n .key .places) (enteredKey (o w x r a n .key) r) t → ListStep w w₂ (put r) r (a .h) (a .t)
       go m =
@@ -255,7 +315,7 @@ module _ (w w₁ w₂ : List ℕ) (x : Spot) (r : Region) (a : OwnerReady w x r)
           let p = lies-there w x r a n .records in
           let free : count q (records w x r a n) ≡ 0 = omega (arith, p .once q (m .low) (m .high), m .uses .counts q (m .low) (m .high), count-same q [], no-count q, used-one w₁ q) in
           subst (λ v. ListStep w v (put r) r (a .h) (a .t)) (sym st)
-          (list-done w x r a n k ws is w₁ new (q ∷ o w x r a n .key .places) (q ∷ []) [] t (put r) (λ k. frontPlaces (r .start) k ++ q ∷ backPlaces (r .start) k) (m .touched)
+          (list-done w x r a n k is w₁ (q ∷ o w x r a n .key .places) (q ∷ []) [] t (put r) (λ k. frontPlaces (r .start) k ++ q ∷ backPlaces (r .start) k) (m .touched)
           (λ y l z. count-other y q (o w x r a n .key .places) (λ e. omega (arith, ap (λ i. count i (records w x r a n)) e)) ∙ z)
           (m .uses)
           (λ y. omega (
@@ -266,28 +326,22 @@ module _ (w w₁ w₂ : List ℕ) (x : Spot) (r : Region) (a : OwnerReady w x r)
             no-count y,
           ))
           (λ y l. let e = one-count y q l in (omega (arith, m .low), omega (arith, m .high)))
-          (m .held) fits load page-is)
+          (m .held))
 
   -- DELETE
   pub leave-done : ((key : Key) → KeyHeld w k key → AllUsed w (key .places) → Went w w₁ key (r .start) t) → ListStep w w₂ (out (r .start)) r (a .h) (a .t)
-  leave-done f = go (f (o w x r a n .key) (read-words w x r a n k ws is) (spot-used w x r a n))
+  leave-done f = go (f (o w x r a n .key) (read-words w x r a n k is) (spot-used w x r a n))
     where
       go : Went w w₁ (o w x r a n .key) (r .start) t → ListStep w w₂ (out (r .start)) r (a .h) (a .t)
       go m =
           let b = backPlaces (r .start) (o w x r a n .key) in
           subst (λ v. ListStep w v (out (r .start)) r (a .h) (a .t)) (sym st)
-          (list-done w x r a n k ws is w₁ new (o w x r a n .key .places) [] (take 1 b) t (out (r .start)) (λ k. frontPlaces (r .start) k ++ drop 1 (backPlaces (r .start) k)) (m .touched)
+          (list-done w x r a n k is w₁ (o w x r a n .key .places) [] (take 1 b) t (out (r .start)) (λ k. frontPlaces (r .start) k ++ drop 1 (backPlaces (r .start) k)) (m .touched)
           (λ y l z. z) (m .uses)
           (λ y. omega (arith, count-append y (frontPlaces (r .start) (o w x r a n .key)) (drop 1 b), parts-count (r .start) (o w x r a n .key) y, first-count b y, no-count y))
           (λ y l. absurd (omega (arith, no-count y)))
-          (m .held) fits load page-is)
+          (m .held))
 
 -- WHAT THE CALLS ASK, of a page as it was loaded
-pub loaded-leaf : (w ws : List ℕ) (p s i : ℕ) → ws ≡ pageOf w p → i ≡ entriesBefore (pageOf w p) s → fillOf (pageOf w p) ≤ 8 → (fillOf ws ≤ 8) × (i ≤ fillOf ws)
-loaded-leaf w ws p s i e k l = let f = ap fillOf e in (omega arith, omega (arith, before-most (pageOf w p) s))
-
 pub loaded-entry : (w ws : List ℕ) (p s i : ℕ) → ws ≡ pageOf w p → LeafReady w p s → i < fillOf (pageOf w p) → (fillOf ws ≤ 9) × (i < fillOf ws)
 loaded-entry w ws p s i e a l = let f = ap fillOf e in (omega (arith, ready-few w p s a), omega arith)
-
-pub loaded-page : (w ws : List ℕ) (x : Spot) (r : Region) → OwnerReady w x r → (x .flag ≡ 0 → ⊥) → ws ≡ pageOf w (x .page) → (fillOf ws ≤ 9) × (x .key < fillOf ws)
-loaded-page w ws x r a n e = subst (λ v. (fillOf v ≤ 9) × (x .key < fillOf v)) (sym e) (spot-fill w x r a n)

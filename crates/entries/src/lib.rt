@@ -28,15 +28,18 @@ fn entries_before(img: &[u32], leaf: u32, x: u32) -> usize
     i
 }
 
-// The entry of r into its leaf, by its start.
+// The entry of r into its leaf, by its start: the entries behind move one place on within the page, each with its spare word.
 fn put_leaf(img: &mut [u32], leaf: u32, r: Region, flag: u32)
     requires { ⌜ LeafReady (now img) leaf (r .start) × (fillOf (pageOf (now img) leaf) ≤ 8) ⌝ }
     ensures { λ _. ⌜ ((s : LeafReady (now (img .entry)) leaf (r .start)) → LeafStep (now (img .entry)) (now (img .exit)) (renew (putEntry (newEntry r flag))) (r .start) (s .h) (s .t)) ⌝ }
 {
     let i = entries_before(img, leaf, r.start);
-    let ws = store::load_page(img, leaf);
-    let with = newpages::leaf_with(ws, i, r, flag);
-    store::store_page(img, leaf, with);
+    let n = pages::fill(img, leaf);
+    let gap = pages::page_at(leaf) + pages::entry_word(i);
+    let run = pages::ENTRY_WIDTH * (words::wide(n) - i);
+    store::move_up(img, gap, run, pages::ENTRY_WIDTH);
+    store::put_entry(img, leaf, i, r, flag);
+    store::set_fill(img, leaf, n + 1);
 }
 
 // The entry number i, the first that does not start before `start`, out of its leaf.
@@ -59,11 +62,9 @@ fn enter_owner(img: &mut [u32], at: Spot, r: Region)
     }
     let p = at.page;
     let i = at.key;
-    let ws = store::load_page(img, p);
     let k = pages::key_words(img, p, i);
     let entered = records::enter(img, k, r);
-    let new = newpages::set_key(ws, i, entered);
-    store::store_page(img, p, new);
+    store::put_key(img, p, i, entered);
 }
 
 // The record of r out of its owner's list.
@@ -76,11 +77,9 @@ fn leave_owner(img: &mut [u32], at: Spot, r: Region)
     }
     let p = at.page;
     let i = at.key;
-    let ws = store::load_page(img, p);
     let k = pages::key_words(img, p, i);
     let left = records::leave(img, k, r.start);
-    let new = newpages::set_key(ws, i, left);
-    store::store_page(img, p, new);
+    store::put_key(img, p, i, left);
 }
 
 // SAVE: the region into its leaf and into its owner's list. The leaf may hold nine entries then.

@@ -2,8 +2,8 @@
 -- Assumes nothing.
 use Prim.Native.Nat.{ℕ, suc, _+_, _*_, _-_, _<_, _≤_}
 use mathlib.Core.Path.{_≡_, sym, ap, ap₂, _∙_}
-use mathlib.Core.List.{List, _++_}
-use lib.ListN.{length, getD, set, take, drop}
+use mathlib.Core.List.{List, [], _∷_, _++_}
+use lib.ListN.{length, getD, set, take, drop, length-set}
 use lib.Seq.{sets, length-sets, getD-set-same, getD-set-other}
 use native.Mathlib.Omega.{arith}
 use Rattle.regions.specs.declared.Region.{Region}
@@ -12,61 +12,83 @@ use Rattle.pages.specs.Layout.{markOf, fillOf, nextOf, entryWord}
 use Rattle.image.specs.Read.{entryAt, entriesFrom}
 use Rattle.pagewords.specs.Words.{copiedIn, headedBy, entryWords}
 use Rattle.newpages.specs.Pages.{putIn, takenOut, putFor, newEntry, flaggedEntry, entriesOf, spareIn, sparesFrom, sparesOf, IsLeaf}
-use Rattle.newpages.proofs.Runs.{Seg, seg-self, seg-below, seg-in, copy-long, copy-below, copy-in, head-above, head-words}
+use Rattle.newpages.proofs.Runs.{Seg, seg-self, seg-below, seg-above, seg-in, copy-long, copy-below, copy-in, head-above, head-words}
 use Rattle.newpages.proofs.Items.{upFrom, up-same, items-in, items-out, items-for, items-left, items-right, items-joined}
 use Rattle.newpages.proofs.Read.{first-word, entry-reads, spare-reads, entry-step, entries-up, spares-up}
 
--- a page under its new head is a leaf with the entries and spare words that stand there
-headed-leaf : (u : List ℕ) (mark fill next : ℕ) (es : List Entry) (ss : List ℕ) → 3 ≤ length u
-    → upFrom (entryAt (headedBy u mark fill next)) 0 fill ≡ es → upFrom (spareIn (headedBy u mark fill next)) 0 fill ≡ ss → IsLeaf (headedBy u mark fill next) mark fill next es ss
-headed-leaf u mark fill next es ss h e s =
-    let r = headedBy u mark fill next in
-    let w = head-words u mark fill next h in
+-- a page with this head is a leaf with the entries and spare words that stand in it
+leaf-of : (r : List ℕ) (mark fill next : ℕ) (es : List Entry) (ss : List ℕ) → markOf r ≡ mark → fillOf r ≡ fill → nextOf r ≡ next
+    → upFrom (entryAt r) 0 fill ≡ es → upFrom (spareIn r) 0 fill ≡ ss → IsLeaf r mark fill next es ss
+leaf-of r mark fill next es ss m f n e s =
     record {
-      mark-is = w .0;
-      fill-is = w .1;
-      next-is = w .2;
-      entries-are = ap (entriesFrom r 0) (w .1) ∙ entries-up r 0 fill ∙ e;
-      spares-are = ap (sparesFrom r 0) (w .1) ∙ spares-up r 0 fill ∙ s;
+      mark-is = m;
+      fill-is = f;
+      next-is = n;
+      entries-are = ap (entriesFrom r 0) f ∙ entries-up r 0 fill ∙ e;
+      spares-are = ap (sparesFrom r 0) f ∙ spares-up r 0 fill ∙ s;
     }
 
-module _ (ws : List ℕ) (long : length ws ≡ 57) where
-  pub leaf-with-is : (i n m : ℕ) (x : Region) (flag : ℕ) → n ≡ fillOf ws → fillOf ws ≤ 8 → i ≤ fillOf ws → m ≡ suc (fillOf ws)
-      → IsLeaf (headedBy (copiedIn (sets ws (3 + 6 * i) (entryWords x flag)) (3 + 6 * i + 6) ws (3 + 6 * i) (6 * (n - i))) (markOf ws) m (nextOf ws))
-      (markOf ws) (suc (fillOf ws)) (nextOf ws) (putIn i (newEntry x flag) (entriesOf ws)) (putIn i 0 (sparesOf ws))
-  leaf-with-is i n m x flag e f h g =
-      rw g
-      (headed-leaf u (markOf ws) (suc (fillOf ws)) (nextOf ws) _ _ (omega (arith, copy-long put (3 + 6 * i + 6) ws (3 + 6 * i) (6 * (n - i)), put-long))
-      (items-in 6 entryWord entry-step entryAt entry-reads r ws i (fillOf ws) (newEntry x flag) h before entry behind ∙ ap (putIn i (newEntry x flag)) (sym (entries-up ws 0 (fillOf ws))))
-      (items-in 6 entryWord entry-step spareIn spare-reads r ws i (fillOf ws) 0 h before (here .same 5 (omega arith)) behind ∙ ap (putIn i 0) (sym (spares-up ws 0 (fillOf ws)))))
-    where
-      put : List ℕ
-      put = sets ws (3 + 6 * i) (entryWords x flag)
+headed-leaf : (u : List ℕ) (mark fill next : ℕ) (es : List Entry) (ss : List ℕ) → 3 ≤ length u
+    → upFrom (entryAt (headedBy u mark fill next)) 0 fill ≡ es → upFrom (spareIn (headedBy u mark fill next)) 0 fill ≡ ss → IsLeaf (headedBy u mark fill next) mark fill next es ss
+headed-leaf u mark fill next es ss h e s = let w = head-words u mark fill next h in leaf-of (headedBy u mark fill next) mark fill next es ss (w .0) (w .1) (w .2) e s
 
-      u : List ℕ
-      u = copiedIn put (3 + 6 * i + 6) ws (3 + 6 * i) (6 * (n - i))
+-- A leaf with one entry more, as entry i: those behind it have moved up, its words stand in the gap, the fill is raised.
+abbrev pub leafWith : List ℕ → ℕ → Region → ℕ → List ℕ
+leafWith ws i x flag = set (sets (copiedIn ws (entryWord i + 6) ws (entryWord i) (6 * (fillOf ws - i))) (entryWord i) (entryWords x flag)) 1 (suc (fillOf ws))
+
+pub leaf-with-long : (ws : List ℕ) (i : ℕ) (x : Region) (flag : ℕ) → length (leafWith ws i x flag) ≡ length ws
+leaf-with-long ws i x flag =
+    length-set (sets (copiedIn ws (entryWord i + 6) ws (entryWord i) (6 * (fillOf ws - i))) (entryWord i) (entryWords x flag)) 1 (suc (fillOf ws))
+    ∙ length-sets (copiedIn ws (entryWord i + 6) ws (entryWord i) (6 * (fillOf ws - i))) (entryWord i) (entryWords x flag)
+    ∙ copy-long ws (entryWord i + 6) ws (entryWord i) (6 * (fillOf ws - i))
+
+module _ (ws : List ℕ) (long : length ws ≡ 57) where
+  pub leaf-with-is : (i : ℕ) (x : Region) (flag : ℕ) → fillOf ws ≤ 8 → i ≤ fillOf ws
+      → IsLeaf (leafWith ws i x flag) (markOf ws) (suc (fillOf ws)) (nextOf ws) (putIn i (newEntry x flag) (entriesOf ws)) (putIn i 0 (sparesOf ws))
+  leaf-with-is i x flag f h =
+      leaf-of r (markOf ws) (suc (fillOf ws)) (nextOf ws) _ _ (head 0 (omega arith) (omega arith)) (getD-set-same put 1 (suc (fillOf ws)) 0 (omega (arith, put-long))) (head 2 (omega arith) (omega arith))
+      (items-in 6 entryWord entry-step entryAt entry-reads r ws i (fillOf ws) (newEntry x flag) h before entry behind ∙ ap (putIn i (newEntry x flag)) (sym (entries-up ws 0 (fillOf ws))))
+      (items-in 6 entryWord entry-step spareIn spare-reads r ws i (fillOf ws) 0 h before (here .same 5 (omega arith)) behind ∙ ap (putIn i 0) (sym (spares-up ws 0 (fillOf ws))))
+    where
+      m : ℕ
+      m = 6 * (fillOf ws - i)
+
+      moved : List ℕ
+      moved = copiedIn ws (entryWord i + 6) ws (entryWord i) m
+
+      put : List ℕ
+      put = sets moved (entryWord i) (entryWords x flag)
 
       r : List ℕ
-      r = headedBy u (markOf ws) (suc (fillOf ws)) (nextOf ws)
+      r = set put 1 (suc (fillOf ws))
+
+      moved-long : length moved ≡ length ws
+      moved-long = copy-long ws (entryWord i + 6) ws (entryWord i) m
 
       put-long : length put ≡ length ws
-      put-long = length-sets ws (3 + 6 * i) (entryWords x flag)
+      put-long = length-sets moved (entryWord i) (entryWords x flag) ∙ moved-long
 
-      -- what stands before the copied run
-      under : {v : List ℕ} {s t l : ℕ} → 3 ≤ s → s + l ≤ 3 + 6 * i + 6 → Seg put s v t l → Seg r s v t l
-      under a b q = head-above u (markOf ws) (suc (fillOf ws)) (nextOf ws) a (copy-below put (3 + 6 * i + 6) ws (3 + 6 * i) (6 * (n - i)) b q)
+      -- what stands before the entry, and what is not the fill
+      under : (s l : ℕ) → s + l ≤ entryWord i → Seg put s ws s l
+      under s l g = seg-below (entryWord i) (entryWords x flag) g (copy-below ws (entryWord i + 6) ws (entryWord i) m (omega arith) (seg-self ws s l))
+
+      raised : {v : List ℕ} {s t l : ℕ} → 3 ≤ s → Seg put s v t l → Seg r s v t l
+      raised g q = seg-above 1 (suc (fillOf ws) ∷ []) (omega arith) q
+
+      head : (j : ℕ) → j < 3 → (j ≡ 1 → ⊥) → getD r j 0 ≡ getD ws j 0
+      head j l n = getD-set-other put 1 j (suc (fillOf ws)) 0 n ∙ first-word (under j 1 (omega arith)) (omega arith)
 
       before : Seg r 3 ws 3 (6 * i)
-      before = under (omega arith) (omega arith) (seg-below (3 + 6 * i) (entryWords x flag) (omega arith) (seg-self ws 3 (6 * i)))
+      before = raised (omega arith) (under 3 (6 * i) (omega arith))
 
       here : Seg r (entryWord i) (entryWords x flag) 0 6
-      here = under (omega arith) (omega arith) (seg-in ws (3 + 6 * i) (entryWords x flag) (omega arith))
+      here = raised (omega arith) (seg-in moved (entryWord i) (entryWords x flag) (omega (arith, moved-long)))
 
-      behind : Seg r (entryWord (suc i)) ws (entryWord i) (6 * (fillOf ws - i))
+      behind : Seg r (entryWord (suc i)) ws (entryWord i) m
       behind =
-          head-above u (markOf ws) (suc (fillOf ws)) (nextOf ws) (omega arith)
-          (copy-in put (3 + 6 * i + 6) ws (3 + 6 * i) (6 * (n - i)) (entryWord (suc i)) (entryWord i) (6 * (fillOf ws - i)) (omega arith) (omega (arith, put-long))
-          (omega arith) (omega arith) (omega arith))
+          raised (omega arith)
+          (seg-above (entryWord i) (entryWords x flag) (omega arith)
+          (copy-in ws (entryWord i + 6) ws (entryWord i) m (entryWord (suc i)) (entryWord i) m (omega arith) (omega arith) (omega arith) (omega arith) (omega arith)))
 
       entry : entryAt r i ≡ newEntry x flag
       entry =
@@ -135,18 +157,10 @@ module _ (ws : List ℕ) (long : length ws ≡ 57) where
   pub set-flag-is : (i flag : ℕ) → fillOf ws ≤ 9 → i < fillOf ws
       → IsLeaf (set ws (3 + 6 * i + 4) flag) (markOf ws) (fillOf ws) (nextOf ws) (putFor i (flaggedEntry ws i flag) (entriesOf ws)) (sparesOf ws)
   set-flag-is i flag f h =
-      record {
-        mark-is = other 0 (omega arith);
-        fill-is = other 1 (omega arith);
-        next-is = other 2 (omega arith);
-        entries-are =
-            ap (entriesFrom r 0) (other 1 (omega arith)) ∙ entries-up r 0 (fillOf ws)
-            ∙ items-for 6 entryWord entry-step entryAt entry-reads r ws i (fillOf ws) (flaggedEntry ws i flag) h before entry behind
-            ∙ ap (putFor i (flaggedEntry ws i flag)) (sym (entries-up ws 0 (fillOf ws)));
-        spares-are =
-            ap (sparesFrom r 0) (other 1 (omega arith)) ∙ spares-up r 0 (fillOf ws) ∙ up-same (spareIn r) (spareIn ws) 0 (fillOf ws) (λ j. other (entryWord j + 5) (omega arith))
-            ∙ sym (spares-up ws 0 (fillOf ws));
-      }
+      leaf-of r (markOf ws) (fillOf ws) (nextOf ws) _ _ (other 0 (omega arith)) (other 1 (omega arith)) (other 2 (omega arith))
+      (items-for 6 entryWord entry-step entryAt entry-reads r ws i (fillOf ws) (flaggedEntry ws i flag) h before entry behind
+      ∙ ap (putFor i (flaggedEntry ws i flag)) (sym (entries-up ws 0 (fillOf ws))))
+      (up-same (spareIn r) (spareIn ws) 0 (fillOf ws) (λ j. other (entryWord j + 5) (omega arith)) ∙ sym (spares-up ws 0 (fillOf ws)))
     where
       r : List ℕ
       r = set ws (3 + 6 * i + 4) flag

@@ -3,22 +3,9 @@ ghost use mathlib.Core.List.{[], _∷_, _++_};
 ghost use Prim.Native.Nat.{suc, _+_, _-_, _<_, _≤_};
 ghost use lib.ListN.{take, drop};
 ghost use Rattle.pages.specs.Layout.{markOf, fillOf, nextOf};
-ghost use Rattle.newpages.specs.Pages.{putIn, takenOut, putFor, newEntry, flaggedEntry, entriesOf, sparesOf, keysOf, childrenOf, IsLeaf, IsInner};
+ghost use Rattle.newpages.specs.Pages.{putIn, takenOut, putFor, flaggedEntry, entriesOf, sparesOf, keysOf, childrenOf, IsLeaf, IsInner};
 use pages::KeyWords;
 use pages::Page;
-use regions::Region;
-
-// A leaf with one entry more, as entry i.
-pub fn leaf_with(ws: Page, i: usize, r: Region, flag: u32) -> Page
-    requires { ⌜ (fillOf ws ≤ 8) × (i ≤ fillOf ws) ⌝ }
-    ensures { λ s. ⌜ IsLeaf s (markOf ws) (suc (fillOf ws)) (nextOf ws) (putIn i (newEntry r flag) (entriesOf ws)) (putIn i 0 (sparesOf ws)) ⌝ }
-{
-    let m = words::wide(ws[1]) - i;
-    let a = pages::entry_word(i);
-    let put = pagewords::put_entry(ws, a, r, flag);
-    let moved = pagewords::copied(put, a + pages::ENTRY_WIDTH, ws, a, pages::ENTRY_WIDTH * m);
-    pagewords::headed(moved, ws[0], ws[1] + 1, ws[2])
-}
 
 // A leaf without its entry i.
 pub fn leaf_without(ws: Page, i: usize) -> Page

@@ -3,9 +3,9 @@ ghost use mathlib.Core.Path.{_≡_};
 ghost use Prim.Native.Nat.{_+_, _<_, _≤_};
 ghost use lib.ListN.{getD};
 ghost use lib.Seq.{sets};
-ghost use Rattle.pages.specs.Layout.{regionIn, entryWord, flagIn, childIn, pageWidth, entryWidth, keyWidth};
+ghost use Rattle.pages.specs.Layout.{regionIn, entryWord, flagIn, childIn, pageWidth, keyWidth};
 ghost use Rattle.image.specs.Decode.{keyWordsAt};
-ghost use Rattle.pagewords.specs.Words.{copiedIn, headedBy, entryWords, keyList};
+ghost use Rattle.pagewords.specs.Words.{copiedIn, headedBy, keyList};
 use pages::KeyWords;
 use pages::Page;
 use regions::Region;
@@ -73,20 +73,6 @@ pub fn copied(to: Page, a: usize, from: Page, b: usize, n: usize) -> Page
         ws[a + i] = from[b + i];
         i += 1;
     }
-    ws
-}
-
-// The six words of an entry, from word a on; the sixth, spare, is 0.
-pub fn put_entry(mut ws: Page, a: usize, r: Region, flag: u32) -> Page
-    requires { ⌜ a + entryWidth ≤ pageWidth ⌝ }
-    ensures { λ s. ⌜ s ≡ sets ws a (entryWords r flag) ⌝ }
-{
-    ws[a] = r.start;
-    ws[a + 1] = r.end;
-    ws[a + 2] = r.level;
-    ws[a + 3] = r.reference;
-    ws[a + 4] = flag;
-    ws[a + 5] = 0;
     ws
 }
 

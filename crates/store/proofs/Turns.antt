@@ -1,16 +1,18 @@
 -- The turns and ends of the writers' loops, over plain lists.
 -- Assumes nothing.
-use Prim.Native.Nat.{ℕ, suc, _+_, _*_, _<_, _≤_}
+use Prim.Native.Nat.{ℕ, suc, _+_, _*_, _-_, _<_, _≤_}
 use mathlib.Core.Path.{_≡_, sym, ap, _∙_}
 use mathlib.Core.Bool.{Bool, true, false, not}
-use mathlib.Core.List.{List, [], _∷_}
-use lib.ListN.{length, getD, set, take, drop, length-drop, drop-of-length-le}
+use mathlib.Core.List.{List, [], _∷_, _++_}
+use lib.ListN.{length, getD, set, take, drop, length-take, length-drop, drop-of-length-le}
 use lib.Seq.{sets, take-suc-set, take-suc, getD-drop, drop-cons, take-all}
 use native.Mathlib.Omega.{arith}
-use native.Mathlib.Numerals.{add-one, towards-suc}
+use native.Mathlib.Numerals.{add-one}
 use borrow.Author.Count.{below-more}
 use Rattle.words.proofs.Tests.{eq-yes, eq-no}
+use Rattle.words.proofs.Written.{set-beside, sets-append}
 use Rattle.pages.specs.Layout.{pageOf, recordOf, markOf, recordEnd, pageUsed, recordUsed}
+use Rattle.pagewords.specs.Words.{copiedIn}
 use Rattle.store.specs.Store.{putPage, FirstFree}
 
 -- LOADING: the first i words are there
@@ -36,10 +38,24 @@ pub store-done : (w w′ ws : List ℕ) (p b i : ℕ) → length ws ≤ i → b 
 unfolding putPage
 store-done w w′ ws p b i h e s = sym (ap (λ l. sets w (b + i) l) (drop-of-length-le ws h)) ∙ s ∙ ap (λ n. sets w′ n ws) e
 
--- five words one behind the other
-pub put-five : (w : List ℕ) (q n a b c d e : ℕ) → n ≡ 9177 + 6 * q
-    → set (set (set (set (set w n a) (n + 1) b) (n + 2) c) (n + 3) d) (n + 4) e ≡ sets w (9177 + 6 * q) (a ∷ b ∷ c ∷ d ∷ e ∷ [])
-put-five w q n a b c d e s = rw s (simp towards-suc)
+-- MOVING UP by words: what is left to move gives the whole
+pub move-start : (w : List ℕ) (c b n : ℕ) → sets w c (take (n - 0) (drop b w)) ≡ copiedIn w c w b n
+unfolding copiedIn
+move-start w c b n = let e : n - 0 ≡ n = omega arith in rw e
+
+pub move-turn : (w u : List ℕ) (b c n i x : ℕ) → i < n → b + n ≤ length w → x ≡ getD w (b + (n - (i + 1))) 0
+    → sets (set u (c + (n - (i + 1))) x) c (take (n - (i + 1)) (drop b w)) ≡ sets u c (take (n - i) (drop b w))
+move-turn w u b c n i x h l e = let f : n - i ≡ suc (n - (i + 1)) = omega arith in rw f (word (n - (i + 1)) (omega arith) e)
+  where
+    word : (j : ℕ) → b + j < length w → x ≡ getD w (b + j) 0 → sets (set u (c + j) x) c (take j (drop b w)) ≡ sets u c (take (suc j) (drop b w))
+    word j g e =
+        let m : j < length (drop b w) = simp length-drop (omega arith) in
+        let f : length (take j (drop b w)) ≡ j = simp length-take (omega arith) in
+        sym (set-beside (take j (drop b w)) u c (c + j) x (λ k k< z. omega arith)) ∙ sets-append u c (c + j) (take j (drop b w)) (x ∷ []) (omega arith)
+        ∙ ap (sets u c) (ap (λ y. take j (drop b w) ++ y ∷ []) (e ∙ sym (getD-drop b w j 0)) ∙ sym (take-suc (drop b w) j 0 m))
+
+pub move-done : (w u : List ℕ) (c b n i : ℕ) → n ≤ i → sets u c (take (n - i) (drop b w)) ≡ u
+move-done w u c b n i h = let e : n - i ≡ 0 = omega arith in rw e
 
 -- SEARCHING: a place whose word is 0 is free, and one whose word is not is in use
 pub page-free : (w : List ℕ) (p m : ℕ) → m ≡ markOf (pageOf w p) → m ≡ 0 → pageUsed w p ≡ false

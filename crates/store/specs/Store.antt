@@ -6,8 +6,10 @@ use mathlib.Core.Bool.{Bool, true, false}
 use mathlib.Core.List.{List, [], _∷_}
 use lib.ListN.{set}
 use lib.Seq.{sets}
-use Rattle.pages.specs.Layout.{pageWord, recordWord}
 use Rattle.regions.specs.declared.Region.{Region}
+use Rattle.pages.specs.Layout.{pageWord, entryWord, keyWord, recordWord}
+use Rattle.pages.specs.declared.KeyWords.{KeyWords}
+use Rattle.pagewords.specs.Words.{entryWords, keyList}
 
 -- PAGES: 57 words at place p; a place given back
 unfoldable pub putPage : List ℕ → ℕ → List ℕ → List ℕ
@@ -15,6 +17,16 @@ putPage w p ws = sets w (pageWord p) ws
 
 unfoldable pub freePage : List ℕ → ℕ → List ℕ
 freePage w p = set w (pageWord p) 0
+
+-- WITHIN A PAGE: entry i of leaf p, key i of inner page p, the fill of either
+unfoldable pub putEntryAt : List ℕ → ℕ → ℕ → Region → ℕ → List ℕ
+putEntryAt w p i r flag = sets w (pageWord p + entryWord i) (entryWords r flag)
+
+unfoldable pub putKeyAt : List ℕ → ℕ → ℕ → KeyWords → List ℕ
+putKeyAt w p i k = sets w (pageWord p + keyWord i) (keyList k)
+
+unfoldable pub setFill : List ℕ → ℕ → ℕ → List ℕ
+setFill w p n = set w (pageWord p + 1) n
 
 -- STAB RECORDS: a region with the record behind it (the sixth word stays); another record behind it; a place given back
 abbrev pub recordWords : Region → ℕ → List ℕ

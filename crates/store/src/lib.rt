@@ -1,10 +1,13 @@
-// The writers of an image's words: a page or a stab record at its place, a place given back, the header; and the search for a free place.
-// What a page holds is worked out by value (crate newpages), so these are the only stores into an image that save and delete make.
+// The writers of an image's words: a page, a part of one or a stab record at its place, a place given back, the header; and the search for a free place.
+// These are the only stores into an image that save and delete make. An entry more and a key's new words are written where they stand; a page that is cut,
+// joined or loses an entry is worked out by value (crate newpages) and stored whole.
 ghost use mathlib.Core.Path.{_≡_};
-ghost use Prim.Native.Nat.{_≤_};
+ghost use Prim.Native.Nat.{_+_, _<_, _≤_};
 ghost use lib.ListN.{length};
 ghost use Rattle.pages.specs.Layout.{pageOf, pageUsed, recordUsed, imageWords, pageCount, recordCount};
-ghost use Rattle.store.specs.Store.{putPage, freePage, putRecord, setNext, freeRecord, setRoot, setHeight, FirstFree};
+ghost use Rattle.pagewords.specs.Words.{copiedIn};
+ghost use Rattle.store.specs.Store.{putPage, freePage, putEntryAt, putKeyAt, setFill, putRecord, setNext, freeRecord, setRoot, setHeight, FirstFree};
+use pages::KeyWords;
 use pages::Page;
 use regions::Region;
 
@@ -45,6 +48,57 @@ pub fn free_page(img: &mut [u32], p: u32)
     ensures { λ _. ⌜ now (img .exit) ≡ freePage (now (img .entry)) p ⌝ }
 {
     img[pages::page_at(p)] = 0;
+}
+
+// Moves n words, from word b on, up by k words. The last one goes first: where the two runs overlap, a word is read before another is written over it.
+pub fn move_up(img: &mut [u32], b: usize, n: usize, k: usize)
+    requires { ⌜ length (now img) ≡ imageWords ⌝ }
+    requires { ⌜ b + k + n ≤ imageWords ⌝ }
+    ensures { λ _. ⌜ now (img .exit) ≡ copiedIn (now (img .entry)) (b + k) (now (img .entry)) b n ⌝ }
+{
+    let mut moved: usize = 0;
+    while moved < n {
+        let j = n - (moved + 1);
+        img[b + k + j] = img[b + j];
+        moved += 1;
+    }
+}
+
+// The six words of entry i of leaf p; the sixth, spare, is 0.
+pub fn put_entry(img: &mut [u32], p: u32, i: usize, r: Region, flag: u32)
+    requires { ⌜ length (now img) ≡ imageWords ⌝ }
+    requires { ⌜ (1 ≤ p) × (p ≤ pageCount) × (i < 9) ⌝ }
+    ensures { λ _. ⌜ now (img .exit) ≡ putEntryAt (now (img .entry)) p i r flag ⌝ }
+{
+    let b = pages::page_at(p) + pages::entry_word(i);
+    img[b] = r.start;
+    img[b + 1] = r.end;
+    img[b + 2] = r.level;
+    img[b + 3] = r.reference;
+    img[b + 4] = flag;
+    img[b + 5] = 0;
+}
+
+// The four words of key i of inner page p.
+pub fn put_key(img: &mut [u32], p: u32, i: usize, k: KeyWords)
+    requires { ⌜ length (now img) ≡ imageWords ⌝ }
+    requires { ⌜ (1 ≤ p) × (p ≤ pageCount) × (i < 9) ⌝ }
+    ensures { λ _. ⌜ now (img .exit) ≡ putKeyAt (now (img .entry)) p i k ⌝ }
+{
+    let b = pages::page_at(p) + pages::key_word(i);
+    img[b] = k.key;
+    img[b + 1] = k.start;
+    img[b + 2] = k.end;
+    img[b + 3] = k.head;
+}
+
+// How many entries or keys page p has.
+pub fn set_fill(img: &mut [u32], p: u32, n: u32)
+    requires { ⌜ length (now img) ≡ imageWords ⌝ }
+    requires { ⌜ (1 ≤ p) × (p ≤ pageCount) ⌝ }
+    ensures { λ _. ⌜ now (img .exit) ≡ setFill (now (img .entry)) p n ⌝ }
+{
+    img[pages::page_at(p) + 1] = n;
 }
 
 // Stab record q: a region, and the record behind it in its list.

@@ -1,10 +1,9 @@
 -- `store::put_record` meets its contract: five words one behind the other.
 -- Assumes nothing.
 use borrow.Author.Needs.{needs}
-use denote.Ref.{now}
 use native.Mathlib.Omega.{arith}
+use native.Mathlib.Numerals.{towards-suc}
 use lib.ListN.{length-set}
-use Rattle.store.proofs.Turns.{put-five}
 use Rattle.store.specs.Store.{putRecord}
 use Rattle.store.proofs.put_record.Statement.{statement}
 use Rattle.store.proofs.put_record.Tie as tie
@@ -59,7 +58,7 @@ same-length c = search needs
 
 returns : tie.Need-returns
 unfolding putRecord
-returns c = let s = c .before .before .args in put-five (now (s .img)) _ _ (s .r .start) (s .r .end) (s .r .level) (s .r .reference) (s .next) (c .record-at .ensures)
+returns c = rw (c .record-at .ensures) (simp towards-suc)
 
 pub put-record-spec : {M : Type 1} → statement M
 put-record-spec =
