@@ -157,9 +157,7 @@ put-leaf-done w w₁ w₂ w₃ p i b m j n flag r e few eb em e₁ ej e₂ en e�
     let h : i ≤ fillOf ws = omega (arith, before-most ws s) in
     let c : b + 6 ≡ 57 * p + (entryWord i + 6) = omega arith in
     let fits = page-long w p (a .lies .long) high in
-    let st : w₃ ≡ putPage w p (leafWith ws i r flag) =
-    e₃ ∙ ap₂ (λ v k. setFill v p k) (e₂ ∙ ap₂ (λ v k. putEntryAt v p k r flag) (e₁ ∙ rw (c, eb, em)) ej) en ∙ in-place w p i r flag (a .lies .long) high few h
-    in
+    let st : w₃ ≡ putPage w p (leafWith ws i r flag) = e₃ ∙ ap₂ (λ v k. setFill v p k) (e₂ ∙ ap₂ (λ v k. putEntryAt v p k r flag) (e₁ ∙ rw (c, eb, em)) ej) en ∙ in-place w p i r flag (a .lies .long) high few h in
     subst (λ v. LeafStep w v (renew (putEntry (newEntry r flag))) s (a .h) (a .t)) (sym st)
     (leaf-done w p s a (putEntry (newEntry r flag)) (leafWith ws i r flag) _ _ _ (leaf-with-is ws fits i r flag few h)
     (ap₂ (λ n x. putIn n (newEntry r flag) x) (e ∙ ready-rank w p s a) (ready-entries w p s a) ∙ put-is (newEntry r flag) es)

@@ -1,4 +1,4 @@
-// The words of a page by value: entries, keys and children read, and written at their place.
+// The words of a page by value: entries, keys and children read; a run of words, a key, the head written.
 ghost use mathlib.Core.Path.{_≡_};
 ghost use Prim.Native.Nat.{_+_, _<_, _≤_};
 ghost use lib.ListN.{getD};
