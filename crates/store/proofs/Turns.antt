@@ -39,20 +39,18 @@ unfolding putPage
 store-done w w′ ws p b i h e s = sym (ap (λ l. sets w (b + i) l) (drop-of-length-le ws h)) ∙ s ∙ ap (λ n. sets w′ n ws) e
 
 -- MOVING UP by words: what is left to move gives the whole
-pub move-start : (w : List ℕ) (c b n : ℕ) → sets w c (take (n - 0) (drop b w)) ≡ copiedIn w c w b n
+pub move-start : (w : List ℕ) (c b n i : ℕ) → i ≡ 0 → sets w c (take (n - i) (drop b w)) ≡ copiedIn w c w b n
 unfolding copiedIn
-move-start w c b n = let e : n - 0 ≡ n = omega arith in rw e
+move-start w c b n i z = let e : n - i ≡ n = omega arith in rw e
 
-pub move-turn : (w u : List ℕ) (b c n i x : ℕ) → i < n → b + n ≤ length w → x ≡ getD w (b + (n - (i + 1))) 0
-    → sets (set u (c + (n - (i + 1))) x) c (take (n - (i + 1)) (drop b w)) ≡ sets u c (take (n - i) (drop b w))
-move-turn w u b c n i x h l e = let f : n - i ≡ suc (n - (i + 1)) = omega arith in rw f (word (n - (i + 1)) (omega arith) e)
-  where
-    word : (j : ℕ) → b + j < length w → x ≡ getD w (b + j) 0 → sets (set u (c + j) x) c (take j (drop b w)) ≡ sets u c (take (suc j) (drop b w))
-    word j g e =
-        let m : j < length (drop b w) = simp length-drop (omega arith) in
-        let f : length (take j (drop b w)) ≡ j = simp length-take (omega arith) in
-        sym (set-beside (take j (drop b w)) u c (c + j) x (λ k k< z. omega arith)) ∙ sets-append u c (c + j) (take j (drop b w)) (x ∷ []) (omega arith)
-        ∙ ap (sets u c) (ap (λ y. take j (drop b w) ++ y ∷ []) (e ∙ sym (getD-drop b w j 0)) ∙ sym (take-suc (drop b w) j 0 m))
+pub move-turn : (w u : List ℕ) (b c n i j x : ℕ) → n - i ≡ suc j → b + n ≤ length w → x ≡ getD w (b + j) 0 → sets (set u (c + j) x) c (take (n - (i + 1)) (drop b w)) ≡ sets u c (take (n - i) (drop b w))
+move-turn w u b c n i j x f h e =
+    let g : n - (i + 1) ≡ j = omega arith in
+    let m : j < length (drop b w) = simp length-drop (omega arith) in
+    let l : length (take j (drop b w)) ≡ j = simp length-take (omega arith) in
+    rw (g, f)
+    (sym (set-beside (take j (drop b w)) u c (c + j) x (λ k k< z. omega arith)) ∙ sets-append u c (c + j) (take j (drop b w)) (x ∷ []) (omega arith)
+    ∙ ap (sets u c) (ap (λ y. take j (drop b w) ++ y ∷ []) (e ∙ sym (getD-drop b w j 0)) ∙ sym (take-suc (drop b w) j 0 m)))
 
 pub move-done : (w u : List ℕ) (c b n i : ℕ) → n ≤ i → sets u c (take (n - i) (drop b w)) ≡ u
 move-done w u c b n i h = let e : n - i ≡ 0 = omega arith in rw e

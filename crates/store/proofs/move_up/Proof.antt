@@ -2,7 +2,7 @@
 -- Assumes nothing.
 use borrow.Author.Needs.{needs}
 use denote.Ref.{now}
-use Prim.Native.Nat.{ℕ, _+_, _-_, _<_, _≤_}
+use Prim.Native.Nat.{ℕ, _+_, _-_, _<_}
 use mathlib.Core.Path.{_≡_, refl, sym, _∙_}
 use native.Mathlib.Omega.{arith}
 use lib.ListN.{length, getD, take, drop, length-set}
@@ -14,14 +14,14 @@ use Rattle.store.proofs.move_up.Tie as tie
 
 abbrev Inv-loop : tie.InvT-loop
 Inv-loop img₀ b n k moved₀ img moved =
-    (moved ≤ n) × (length img ≡ length img₀) × (sets img (b + k) (take (n - moved) (drop b img₀)) ≡ copiedIn img₀ (b + k) img₀ b n)
+    (length img ≡ length img₀) × (sets img (b + k) (take (n - moved) (drop b img₀)) ≡ copiedIn img₀ (b + k) img₀ b n)
     × ((j : ℕ) → j < b + k + (n - moved) → getD img j 0 ≡ getD img₀ j 0)
 
 abbrev μ-loop : tie.MeasureT-loop
 μ-loop img₀ b n k moved₀ img moved = n - moved
 
 loop-holds : tie.Need-loop-holds Inv-loop μ-loop
-loop-holds c = (omega arith, refl, move-start _ _ _ _, λ j h. refl)
+loop-holds c = (refl, move-start _ _ _ _ _ (omega arith), λ j h. refl)
 
 add-j : tie.Need-add-j Inv-loop μ-loop
 add-j c = search needs
@@ -60,20 +60,19 @@ loop-again : tie.Need-loop-again Inv-loop μ-loop
 loop-again c =
     let q = c .before .before .loop in
     let s = c .before .before .before .args in (
-      omega arith,
-      simp length-set (q .inv .1),
-      move-turn (now (s .img)) (q .img) (s .b) _ (s .n) (q .moved) _ (search needs) (search needs) (q .inv .3 _ (search needs)) ∙ q .inv .2,
-      λ j h. getD-set-other (q .img) _ j _ 0 (λ e. omega arith) ∙ q .inv .3 j (omega arith),
+      simp length-set (q .inv .0),
+      move-turn (now (s .img)) (q .img) (s .b) _ (s .n) (q .moved) _ _ (omega arith) (search needs) (q .inv .2 _ (search needs)) ∙ q .inv .1,
+      λ j h. getD-set-other (q .img) _ j _ 0 (λ e. omega arith) ∙ q .inv .2 j (omega arith),
     )
 
 same-length : tie.Need-same-length Inv-loop μ-loop
-same-length c = c .before .loop .inv .1
+same-length c = c .before .loop .inv .0
 
 returns : tie.Need-returns Inv-loop μ-loop
 returns c =
     let q = c .before .loop in
     let s = c .before .before .args in
-    sym (move-done (now (s .img)) (q .img) _ (s .b) (s .n) (q .moved) (c .loop-test .left)) ∙ q .inv .2
+    sym (move-done (now (s .img)) (q .img) _ (s .b) (s .n) (q .moved) (c .loop-test .left)) ∙ q .inv .1
 
 pub move-up-spec : {M : Type 1} → statement M
 move-up-spec =
