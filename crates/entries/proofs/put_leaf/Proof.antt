@@ -3,7 +3,6 @@
 use borrow.Author.Needs.{needs}
 use denote.Ref.{now}
 use Prim.Native.Nat.{_≤_}
-use mathlib.Core.Path.{_≡_, refl}
 use native.Mathlib.Omega.{arith}
 use Rattle.pages.specs.Layout.{pageOf, fillOf}
 use Rattle.entries.proofs.Halves.{room-for, put-leaf-done}
