@@ -62,13 +62,13 @@ static size_t used_by(void (*call)(void)) {
 
 /* THE ROWS: the most that was seen of each kind of call, by the levels of the tree before it */
 enum row {
-    OPEN_SET, TEST, LEAF, OWNER, SPLIT, DELETE, ANCESTORS, PARENT, DESCENDANTS, CHILDREN, JOIN,
+    OPEN_SET, TEST, LEAF, OWNER, SPLIT, DELETE_TEST, DELETE, ANCESTORS, PARENT, DESCENDANTS, CHILDREN, JOIN,
     OPEN_DESK, OPEN_SEAT, CLOSE_SEAT, ROUND, PART, ROWS
 };
 
 static const char *names[ROWS] = {
-    "open_set", "save, refused behind the test", "save into a leaf with room", "the same, and into a list", "save with a split", "delete",
-    "ancestors", "parent", "descendants", "children", "join", "open_desk", "open_seat", "close_seat", "round", "part",
+    "open_set", "save, refused behind the test", "save into a leaf with room", "the same, and into a list", "save with a split",
+    "delete, refused behind the test", "delete", "ancestors", "parent", "descendants", "children", "join", "open_desk", "open_seat", "close_seat", "round", "part",
 };
 static size_t most[ROWS][LEVELS + 1];
 
@@ -177,6 +177,8 @@ static void play(struct region *r) {
     measure_desk();
     shuffle(r);
     for (size_t i = 0; i < REGIONS; i++) {
+        what = (struct region){0xffffffff, 0, 0}; /* of another account */
+        measure(DELETE_TEST, delete, SASNUVARTH_ACCOUNT);
         what = r[i];
         measure(DELETE, delete, SASNUVARTH_DONE);
     }

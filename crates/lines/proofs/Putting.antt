@@ -5,12 +5,12 @@ use mathlib.Core.Path.{_≡_, refl, sym, ap, ap₂, _∙_}
 use mathlib.Core.List.{List, [], _∷_, _++_}
 use lib.Dec.{ltb}
 use lib.ListN.{length, take, drop, getD, set, length-append, length-take, length-drop, length-set, drop-of-length-le}
-use lib.Seq.{sets, length-sets, set-comm, drop-cons, getD-take}
+use lib.Seq.{sets, length-sets, drop-cons, getD-take}
 use native.Mathlib.Omega.{arith}
 use native.Mathlib.Numerals.{add-one}
 use native.Mathlib.Nat.{div-div-eq-div-mul, div-eq-of-lt, le-div-iff-mul-le, div-le-self}
 use Rattle.words.proofs.Tests.{by-test, lt-of, nlt-of}
-use Rattle.words.proofs.Written.{sets-append}
+use Rattle.words.proofs.Written.{set-beside, sets-append}
 use Rattle.lines.specs.Text.{digits, decimal, line}
 use Rattle.lines.specs.Reads.{PutsLine}
 use Rattle.lines.specs.Breaks.{breakBehind}
@@ -39,11 +39,6 @@ unfolding lastDigits
 last-long zero n = refl
 last-long (suc k) n = length-append (lastDigits k (n / 10)) _ ∙ omega (arith, last-long k (n / 10))
 
--- a byte behind others is put before them
-sets-set : {A : Type 0} (xs l : List A) (i j : ℕ) (b : A) → i + length xs ≤ j → sets (set l j b) i xs ≡ set (sets l i xs) j b
-sets-set [] l i j b h = refl
-sets-set (x ∷ xs) l i j b h = ap (λ m. sets m (suc i) xs) (set-comm l j i b x (λ e. omega arith)) ∙ sets-set xs (set l i x) (suc i) j b (omega arith)
-
 -- the last digit, and then those in front of it
 pub last-put : (out : List ℕ) (at i n b : ℕ) → at < i → b ≡ 48 + n % 10 → sets (set out (i - 1) b) at (lastDigits (i - 1 - at) (n / 10)) ≡ sets out at (lastDigits (i - at) n)
 unfolding lastDigits
@@ -52,7 +47,7 @@ last-put out at i n b h e =
     let xs = lastDigits k (n / 10) in
     let long = last-long k (n / 10) in
     let all : suc k ≡ i - at = omega arith in
-    sets-set xs out at (i - 1) b (omega arith)
+    sym (set-beside xs out at (i - 1) b (λ j j< z. omega arith))
     ∙ sets-append out at (i - 1) xs (b ∷ []) (omega arith)
     ∙ ap (λ c. sets out at (xs ++ (c ∷ []))) e
     ∙ ap (λ j. sets out at (lastDigits j n)) all

@@ -31,7 +31,7 @@ module _ {A : Type 0} where
   sets-append l i j [] vs e = ap (λ (x : ℕ). sets l x vs) (omega arith)
   sets-append l i j (u ∷ us) vs e = sets-append _ (suc i) j us vs (omega arith)
 
-  -- a word beside a run, and a run within a run: which of the two is written first does not matter
+  -- a word beside a run may be written before it or behind it; what is written within a run is that run written with it
   pub set-beside : (vs l : List A) (i j : ℕ) (x : A) → ((k : ℕ) → k < length vs → i + k ≢ j) → set (sets l i vs) j x ≡ sets (set l j x) i vs
   set-beside [] l i j x f = refl
   set-beside (v ∷ vs) l i j x f =
