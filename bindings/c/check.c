@@ -104,6 +104,8 @@ int main(void) {
     save(outer, 60, 80, 2, 104);
     save(inner, 35, 36, 4, 201);
     save(inner, 70, 71, 3, 202);
+    expect("save at the level around it", sasnuvarth_save(outer, SASNUVARTH_IMAGE_WORDS, 0, 31, 32, 3, 105), SASNUVARTH_LEVEL);
+    expect("save at the level inside it", sasnuvarth_save(outer, SASNUVARTH_IMAGE_WORDS, 0, 5, 95, 1, 105), SASNUVARTH_LEVEL);
     check_searches();
     check_join();
     check_desk();

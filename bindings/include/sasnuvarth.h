@@ -43,7 +43,8 @@ enum {
     SASNUVARTH_SHARES = 8,  /* shares sum to more than 500 */
     SASNUVARTH_SEAT = 9,    /* seat above 7, opened twice, or closed */
     SASNUVARTH_LIMIT = 10,  /* limit above 32, or a count above the seat's limit */
-    SASNUVARTH_DESK = 11    /* an open seat out of its ranges, or not 1,024 words of buffer */
+    SASNUVARTH_DESK = 11,   /* an open seat out of its ranges, or not 1,024 words of buffer */
+    SASNUVARTH_LEVEL = 14   /* its level contradicts one around it or inside it (those around have smaller levels, those inside greater); asked behind CROSS */
 };
 
 /* A join's kind: any number but 0 is by parent. */

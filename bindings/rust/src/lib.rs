@@ -65,6 +65,8 @@ pub enum Refusal {
     Limit = 10,
     /// An open seat is out of its ranges, or the buffer is not of 1,024 words.
     Desk = 11,
+    /// Its level contradicts a held region's: it has to be greater than those of all regions around it, and smaller than those of all inside.
+    Level = 14,
 }
 
 impl Refusal {
@@ -82,6 +84,7 @@ impl Refusal {
             9 => Refusal::Seat,
             10 => Refusal::Limit,
             11 => Refusal::Desk,
+            14 => Refusal::Level,
             _ => return None,
         })
     }

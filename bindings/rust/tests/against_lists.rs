@@ -2,7 +2,7 @@
 
 mod plain;
 
-use plain::chance::{nest, Chance, Shape, SHAPES};
+use plain::chance::{mislevel, nest, Chance, Shape, SHAPES};
 use plain::image::{read, Read};
 use plain::*;
 use sasnuvarth::raw::*;
@@ -257,13 +257,14 @@ fn one_change(chance: &mut Chance, side: &mut Side, pool: &[Region], saves: u32)
 /// Many small sets in tight places, where most things meet.
 #[test]
 fn short_histories() {
-    let mut met = [0u32; 9];
+    let mut met = [0u32; 15];
     for seed in 0..300 {
         let chance = &mut Chance::new(seed);
         let account = chance.pick(&[0, 1, 7, 15]);
         let base = account * 268_435_456 + chance.below(4096) * 65_536 + chance.pick(&[0, 0, 64_000]);
         let (shape, gap, n) = (SHAPES[seed as usize % 3], 1 + chance.below(3), 10 + chance.below(60));
-        let pool = nest(chance, shape, base, gap, n);
+        let mut pool = nest(chance, shape, base, gap, n);
+        mislevel(chance, &mut pool);
         let mut shares = [2; 16];
         shares[account as usize] = chance.pick(&[0, 1, 5, 30, 100, 470]);
         let (mut outer, mut inner) = (open(shares), open(shares));
@@ -276,7 +277,7 @@ fn short_histories() {
         }
     }
     println!("numbers of saves and deletes: {met:?}");
-    assert!([0, 2, 3, 4, 5, 6, 7].iter().all(|&n| met[n] > 20), "every number is met: {met:?}");
+    assert!([0, 2, 3, 4, 5, 6, 7, 14].iter().all(|&n| met[n] > 20), "every number is met: {met:?}");
 }
 
 /// Sets grown to 500 regions, changed for long, and emptied, in each shape and order.
@@ -464,6 +465,8 @@ fn bench_examples() {
     assert_eq!(sasnuvarth::save(&mut outer, 0, region(30, 45, 1, 0)), Err(Refusal::Held));
     assert_eq!(sasnuvarth::save(&mut outer, 0, region(45, 55, 1, 0)), Err(Refusal::Cross));
     assert_eq!(sasnuvarth::save(&mut outer, 0, region(50, 55, 1, 0)), Err(Refusal::Cross));
+    assert_eq!(sasnuvarth::save(&mut outer, 0, region(5, 95, 1, 0)), Err(Refusal::Level));
+    assert_eq!(sasnuvarth::save(&mut outer, 0, region(33, 37, 3, 0)), Err(Refusal::Level));
     assert_eq!(sasnuvarth::save(&mut outer, 0, region(7, 7, 1, 0)), Err(Refusal::Region));
     assert_eq!(sasnuvarth::save(&mut outer, 0, region(65_530, 65_540, 1, 0)), Err(Refusal::Region));
     let mut inner = open(shares).image;
@@ -473,4 +476,22 @@ fn bench_examples() {
     assert_eq!(sasnuvarth::join(&outer, &inner, 0, Kind::Ancestor, out), Ok(8));
     let ds: Vec<u32> = out.chunks_exact(4).take(8).map(|q| q[2]).collect();
     assert_eq!(ds, [25, 25, 35, 35, 35, 55, 70, 70]);
+}
+
+/// A level for each of 255 regions one inside the other; then none is left, around, between or inside.
+#[test]
+fn as_deep_as_levels() {
+    let mut shares = [0; 16];
+    shares[0] = 300;
+    let mut side = open(shares);
+    let region = |i: u32, level| Region { start: 10 * i, end: 10_000 - 10 * i, level, reference: i };
+    for i in 1..=255 {
+        assert_eq!(check_save(&mut side, 0, region(i, i)), 0);
+    }
+    for level in [1, 100, 255] {
+        assert_eq!(check_save(&mut side, 0, Region { start: 5, end: 9_995, level, reference: 0 }), LEVEL);
+        assert_eq!(check_save(&mut side, 0, Region { start: 1_005, end: 8_995, level, reference: 0 }), LEVEL);
+        assert_eq!(check_save(&mut side, 0, Region { start: 2_555, end: 2_556, level, reference: 0 }), LEVEL);
+    }
+    look(&mut Chance::new(3), &side, &open(shares), &[region(7, 7), region(255, 255)], 40);
 }

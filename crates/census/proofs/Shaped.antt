@@ -8,10 +8,11 @@ use lib.Dec.{T, leb, eqb, leb→le, eqb→eq}
 use lib.ListN.{length, getD, take, drop}
 use lib.Seq.{getD-drop}
 use native.Mathlib.Omega.{arith}
-use Rattle.words.specs.Lists.{All, Pairs}
+use Rattle.words.specs.Lists.{All}
 use Rattle.words.proofs.Tests.{and-left, and-right}
 use Rattle.words.proofs.Listed.{all-append}
 use Rattle.words.proofs.Says.{pairs-say, lt-says}
+use Rattle.regions.specs.Sound.{Rising}
 use Rattle.xrtree.specs.Tree.{regions, leaves, pagePlaces}
 use Rattle.xrtree.specs.Rules.{within, filled, linked, startsFirst, rule1, rule2, placed}
 use Rattle.pages.specs.Layout.{imageWords, rootOf, heightOf, sharesOf, pageOf, fillOf, childIn, entryWord, pageCount, pageUsed}
@@ -21,7 +22,7 @@ use Rattle.image.specs.Fills.{rootLeast}
 use Rattle.image.specs.Shape.{shapely}
 use Rattle.image.proofs.Fills.{shapely-fills}
 use Rattle.census.specs.Pass.{Fills, regionsAt}
-use Rattle.census.proofs.Decides.{First, Small}
+use Rattle.census.proofs.Decides.{Small}
 use Rattle.census.proofs.Walk.{fills-any, leafRegions, leaf-listed, kidRegions, inner-listed}
 
 -- THE SHAPE
@@ -47,7 +48,7 @@ module _ (w : List ℕ) (t : T (shapely w)) where
   pub shape-fills : Fills (depthOf w) w (rootOf w)
   shape-fills = fills-any (rootLeast (depthOf w)) (depthOf w) w (rootOf w) (shapely-fills w t)
 
-  pub shape-ascends : Pairs First (setOf w .regions)
+  pub shape-ascends : Rising (setOf w .regions)
   unfolding rule1 setOf startsFirst
   shape-ascends =
       pairs-say (λ x y. lt-says (x .start) (y .start)) (regions (depthOf w) (treeOf w)) .yes-so

@@ -9,12 +9,13 @@ use lib.ListN.{length, getD}
 use native.Mathlib.Omega.{arith}
 use Rattle.words.specs.Lists.{sum}
 use Rattle.words.proofs.Tests.{le-of}
+use Rattle.regions.specs.Limits.{mostAround}
 use Rattle.regions.specs.Sets.{heldBy}
 use Rattle.pages.specs.Layout.{sharesOf}
 use Rattle.xrtree.specs.Rules.{rule6}
 use Rattle.image.specs.Read.{setOf}
 use Rattle.image.specs.Shape.{shapely}
-use Rattle.nesting.specs.Pass.{stackOf, Passed, going, refused, passed}
+use Rattle.nesting.specs.Pass.{stackOf, Passed, going, refused, passed, Fitting}
 use Rattle.nesting.specs.declared.Way.{Way}
 use Rattle.census.specs.Pass.{pass, regionsAt, Fills}
 use Rattle.census.specs.declared.Census.{Census}
@@ -35,17 +36,18 @@ fills-whole w h p t eh ep = rw (eh, ep) (shape-fills w t)
 abbrev pub start : Way
 start = record { ok = true; top = 0 }
 
--- in 500 words
-pub start-fits : (w left : List ℕ) → left ≡ sharesOf w → leb (sum (sharesOf w)) 500 ≡ true → 0 + sum left ≤ 500
-start-fits w left e s = let k = le-of (sum (sharesOf w)) 500 s in rw e (omega arith)
+-- nothing is around yet, and there is a place for each level
+pub start-fits : (ends levels : List ℕ) → length ends ≡ mostAround → length levels ≡ mostAround → Fitting start ends levels
+start-fits ends levels e l = record { ends-long = e; levels-long = l; above = λ k h. absurd (omega arith) }
 
 -- the pass over the whole image
 abbrev pub whole : List ℕ → Passed
 whole w = pass (setOf w .regions) (going [] (setOf w .shares))
 
-pub pass-whole : (w : List ℕ) (h p : ℕ) (stack left : List ℕ) → h ≡ getD w 1 0 → p ≡ getD w 0 0 → left ≡ sharesOf w → pass (regionsAt w (h - 1) p) (passed start stack left) ≡ whole w
+pub pass-whole : (w : List ℕ) (h p : ℕ) (ends levels left : List ℕ) → h ≡ getD w 1 0 → p ≡ getD w 0 0 → left ≡ sharesOf w
+    → pass (regionsAt w (h - 1) p) (passed start ends levels left) ≡ whole w
 unfolding passed stackOf
-pass-whole w h p stack left eh ep el = rw (eh, ep, el, set-regions w, set-shares w)
+pass-whole w h p ends levels left eh ep el = rw (eh, ep, el, set-regions w, set-shares w)
 
 -- what a caller is told
 abbrev pub Told : List ℕ → Census → Type 0
@@ -57,12 +59,12 @@ told-wrong w r e f = (e ∙ f, λ t. absurd (false≢true (sym e ∙ t)))
 pub shares-over : (w : List ℕ) → leb (sum (sharesOf w)) 500 ≡ false → false ≡ rule6 (setOf w)
 shares-over w h = rule-over (setOf w) (rw (set-shares w) h)
 
-module _ (w : List ℕ) (o : Way) (stack left : List ℕ) (e : passed o stack left ≡ whole w) where
+module _ (w : List ℕ) (o : Way) (ends levels left : List ℕ) (e : passed o ends levels left ≡ whole w) where
   ended : o .ok ≡ whole w .ok
   unfolding passed
   ended = by-ok (o .ok) ∙ ap (λ (s : Passed). s .ok) e
     where
-      by-ok : (b : Bool) → b ≡ cond b (going (stackOf stack (o .top)) left) refused .ok
+      by-ok : (b : Bool) → b ≡ cond b (going (stackOf ends levels (o .top)) left) refused .ok
       by-ok true = refl
       by-ok false = refl
 

@@ -1,4 +1,4 @@
-// Decides whether the regions of a rightly shaped image are well formed, nest rightly and keep to their accounts' shares,
+// Decides whether the regions of a rightly shaped image are well formed, nest rightly, with levels that say the same, and keep to their accounts' shares,
 // by one pass in ascending start; and counts what each account holds.
 ghost use mathlib.Core.Path.{_≡_};
 ghost use mathlib.Core.Bool.{true, false};
@@ -14,9 +14,6 @@ ghost use Rattle.nesting.specs.Pass.{passed, Fitting};
 ghost use Rattle.census.specs.Pass.{pass, regionsAt, Fills};
 use nesting::Way;
 use regions::Shares;
-
-// Regions that are open at once, at most.
-const MOST_OPEN: usize = 500;
 
 // Whether the regions are right, and if so how many each account holds.
 pub struct Census {
@@ -39,35 +36,58 @@ fn shares_of(img: &[u32]) -> Shares
 }
 
 // The regions of a leaf.
-fn leaf_regions(img: &[u32], p: u32, stack: &mut [u32], left: &mut [u32], o: Way) -> Way
+fn leaf_regions(
+    img: &[u32],
+    p: u32,
+    ends: &mut [u32],
+    levels: &mut [u8],
+    left: &mut [u32],
+    o: Way,
+) -> Way
     requires { ⌜ Fills 0 (now img) p ⌝ }
-    requires { ⌜ Fitting o (now stack) (now left) ⌝ }
-    ensures { λ r. ⌜ (passed r (now (stack .exit)) (now (left .exit)) ≡ pass (regionsAt (now (img .entry)) 0 p) (passed o (now (stack .entry)) (now (left .entry)))) × Fitting r (now (stack .exit)) (now (left .exit)) ⌝ }
+    requires { ⌜ Fitting o (now ends) (now levels) ⌝ }
+    ensures { λ r. ⌜ (passed r (now (ends .exit)) (now (levels .exit)) (now (left .exit)) ≡ pass (regionsAt (now (img .entry)) 0 p) (passed o (now (ends .entry)) (now (levels .entry)) (now (left .entry)))) × Fitting r (now (ends .exit)) (now (levels .exit)) ⌝ }
 {
     let n = words::wide(pages::fill(img, p));
     let mut t = o;
     let mut i = 0;
     while i < n {
-        t = nesting::enter_one(pages::entry_region(img, p, i), stack, left, t);
+        t = nesting::enter_one(pages::entry_region(img, p, i), ends, levels, left, t);
         i += 1;
     }
     t
 }
 
 // The regions below a page whose leaves lie so many pages deeper.
-fn tree_regions(img: &[u32], depth: u32, p: u32, stack: &mut [u32], left: &mut [u32], o: Way) -> Way
+fn tree_regions(
+    img: &[u32],
+    depth: u32,
+    p: u32,
+    ends: &mut [u32],
+    levels: &mut [u8],
+    left: &mut [u32],
+    o: Way,
+) -> Way
     requires { ⌜ Fills depth (now img) p ⌝ }
-    requires { ⌜ Fitting o (now stack) (now left) ⌝ }
-    ensures { λ r. ⌜ (passed r (now (stack .exit)) (now (left .exit)) ≡ pass (regionsAt (now (img .entry)) depth p) (passed o (now (stack .entry)) (now (left .entry)))) × Fitting r (now (stack .exit)) (now (left .exit)) ⌝ }
+    requires { ⌜ Fitting o (now ends) (now levels) ⌝ }
+    ensures { λ r. ⌜ (passed r (now (ends .exit)) (now (levels .exit)) (now (left .exit)) ≡ pass (regionsAt (now (img .entry)) depth p) (passed o (now (ends .entry)) (now (levels .entry)) (now (left .entry)))) × Fitting r (now (ends .exit)) (now (levels .exit)) ⌝ }
 {
     if depth == 0 {
-        return leaf_regions(img, p, stack, left, o);
+        return leaf_regions(img, p, ends, levels, left, o);
     }
     let n = words::wide(pages::fill(img, p));
     let mut t = o;
     let mut i = 0;
     while i <= n {
-        t = tree_regions(img, depth - 1, pages::child(img, p, i), stack, left, t);
+        t = tree_regions(
+            img,
+            depth - 1,
+            pages::child(img, p, i),
+            ends,
+            levels,
+            left,
+            t,
+        );
         i += 1;
     }
     t
@@ -97,8 +117,8 @@ fn wrong() -> Census
     }
 }
 
-// Whether an image of the right shape keeps rule 6, and how many regions each account holds. The shares come first: with them no more than
-// 500 regions are let in, so 500 words are enough for the open ends, however many entries a hostile image has.
+// Whether an image of the right shape keeps rule 6, and how many regions each account holds. Levels rise inwards or the pass stops, so that a place
+// for each level is enough for the regions around one another, however many entries a hostile image has.
 pub fn take_census(img: &[u32]) -> Census
     requires { ⌜ T (shapely (now img)) ⌝ }
     ensures { λ r. ⌜ (r .ok ≡ rule6 (setOf (now (img .entry)))) × (r .ok ≡ true → (a : ℕ) → a < 16 → getD (r .held) a 0 ≡ heldBy a (setOf (now (img .entry)))) ⌝ }
@@ -107,13 +127,15 @@ pub fn take_census(img: &[u32]) -> Census
     if !regions::shares_fit(left) {
         return wrong();
     }
-    let mut stack = [0u32; MOST_OPEN];
+    let mut ends = [0u32; regions::MOST_AROUND];
+    let mut levels = [0u8; regions::MOST_AROUND];
     let start = Way { ok: true, top: 0 };
     let end = tree_regions(
         img,
         words::word(img, 1) - 1,
         words::word(img, 0),
-        &mut stack,
+        &mut ends,
+        &mut levels,
         &mut left,
         start,
     );

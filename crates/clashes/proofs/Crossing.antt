@@ -8,17 +8,17 @@ use mathlib.Core.List.{List, [], _∷_, _++_}
 use lib.Dec.{T}
 use native.Mathlib.Omega.{arith}
 use native.Mathlib.Decide.{decLe}
-use Rattle.words.specs.Lists.{filter, lastOr, All}
+use Rattle.words.specs.Lists.{filter, lastOr, All, Pairs}
 use Rattle.words.proofs.Tests.{no-T, by-test, nle-of, le-no, nlt-of, lt-no, or-false-left, or-false-right}
-use Rattle.words.proofs.Listed.{all-mono, all-two, all-append, all-filter, pairs-filter, filter-none, none-of, pairs-across, some-none, none-some, all-end, last-split, pairs-two}
-use Rattle.words.proofs.Says.{Says, and-says, lt-says, le-says, true-so, so-true, false-so, so-false}
+use Rattle.words.proofs.Listed.{all-mono, all-two, all-append, all-filter, filter-none, none-of, pairs-across, some-none, none-some, all-end, last-split}
+use Rattle.words.proofs.Says.{Says, and-says, lt-says, le-says, true-so, false-so, so-false}
 use Rattle.regions.specs.declared.Region.{Region}
-use Rattle.regions.specs.Positions.{crosses, nested, contains}
+use Rattle.regions.specs.Positions.{crosses, contains}
 use Rattle.regions.specs.Sets.{Set, isAt, heldAt, crossed}
 use Rattle.regions.specs.Calls.{innermost}
-use Rattle.regions.proofs.Means.{contains-says, at-says, crosses-says, nested-in-turn}
+use Rattle.regions.proofs.Means.{contains-says, at-says, crosses-says}
 use Rattle.regions.specs.Sound.{Rising, Nesting}
-use Rattle.regions.proofs.Chain.{Inward}
+use Rattle.regions.proofs.Chain.{Inward, together-inward}
 use Rattle.clashes.specs.Reach.{reaches, reach, endsBy, startsPast}
 
 pub reaches-says : (x : ℕ) (r : Region) → Says (reaches x r) ((r .start < x) × (x ≤ r .end))
@@ -26,23 +26,16 @@ unfolding reaches
 reaches-says x r = and-says (lt-says (r .start) x) (le-says x (r .end))
 
 -- those that reach a position lie one in the other
-pub reach-inward : (S : Set) (x : ℕ) → Rising (S .regions) → Nesting (S .regions) → All (λ (r : Region). r .start < r .end) (S .regions) → Inward (reach x S)
-reach-inward S x h k w =
-    pairs-filter {S = λ x y. contains x y ≡ true} (reaches x) turn (S .regions)
-    (pairs-two {S = λ a b. (a .start < b .start) × (nested a b ≡ true)} (λ a b l n. (l, n)) (S .regions) h k)
-  where
-    turn : (a b : Region) → T (reaches x a) → T (reaches x b) → (a .start < b .start) × (nested a b ≡ true) → contains a b ≡ true
-    turn a b ta tb m =
-        let u = reaches-says x a .yes-so ta in
-        let v = reaches-says x b .yes-so tb in
-        so-true (contains-says a b) (m .0, true-so (nested-in-turn a b (m .0) (omega arith)) (m .1) (omega arith))
+pub reach-inward : (S : Set) (x : ℕ) → Rising (S .regions) → Nesting (S .regions) → Inward (reach x S)
+reach-inward S x h k =
+    together-inward (reaches x) (λ a b t u. let v = reaches-says x a .yes-so t in let w = reaches-says x b .yes-so u in omega arith) (S .regions) h k
 
--- WHAT THE INNERMOST HAS, all around it have
-by-last : (P : Region → Type 0) → ((a b : Region) → contains a b ≡ true → P b → P a) → (x : Region) (xs : List Region) → Inward (x ∷ xs) → P (lastOr x xs) → All P (x ∷ xs)
-by-last P f x xs h l =
+-- WHAT THE INNERMOST HAS, all around it have, where of every two so related the outer one has it if the inner one has
+pub by-last : (R : Region → Region → Type 0) (P : Region → Type 0) → ((a b : Region) → R a b → P b → P a) → (x : Region) (xs : List Region) → Pairs R (x ∷ xs) → P (lastOr x xs) → All P (x ∷ xs)
+by-last R P f x xs h l =
     let s = last-split x xs in
-    let i : Inward (s .0 ++ lastOr x xs ∷ []) = subst (λ l. Inward l) (s .1) h in
-    let a = all-mono {Q = P} (λ y m. f y (lastOr x xs) (m .0) l) (s .0) (pairs-across (λ a b. contains a b ≡ true) (s .0) (lastOr x xs ∷ []) i) in
+    let i : Pairs R (s .0 ++ lastOr x xs ∷ []) = subst (λ l. Pairs R l) (s .1) h in
+    let a = all-mono {Q = P} (λ y m. f y (lastOr x xs) (m .0) l) (s .0) (pairs-across R (s .0) (lastOr x xs ∷ []) i) in
     subst (All P) (sym (s .1)) (all-append P (s .0) (lastOr x xs ∷ []) a (l, tt))
 
 module _ (e : ℕ) where
@@ -50,7 +43,7 @@ module _ (e : ℕ) where
   unfolding innermost endsBy
   ends-none [] h f = tt
   ends-none (x ∷ xs) h f =
-      by-last (λ (r : Region). e < r .end) (λ a b c l. let m = true-so (contains-says a b) c in omega arith) x xs h (nle-of (lastOr x xs .end) e f)
+      by-last (λ x y. contains x y ≡ true) (λ (r : Region). e < r .end) (λ a b c l. let m = true-so (contains-says a b) c in omega arith) x xs h (nle-of (lastOr x xs .end) e f)
 
   none-ends : (xs : List Region) → All (λ (r : Region). e < r .end) xs → endsBy e (innermost xs) ≡ false
   unfolding innermost endsBy
@@ -61,7 +54,7 @@ module _ (e : ℕ) where
   unfolding innermost startsPast
   starts-none [] h f = tt
   starts-none (x ∷ xs) h f =
-      by-last (λ (r : Region). r .start ≤ e) (λ a b c l. let m = true-so (contains-says a b) c in omega arith) x xs h (nlt-of e (lastOr x xs .start) f)
+      by-last (λ x y. contains x y ≡ true) (λ (r : Region). r .start ≤ e) (λ a b c l. let m = true-so (contains-says a b) c in omega arith) x xs h (nlt-of e (lastOr x xs .start) f)
 
   none-starts : (xs : List Region) → All (λ (r : Region). r .start ≤ e) xs → startsPast e (innermost xs) ≡ false
   unfolding innermost startsPast
@@ -69,7 +62,7 @@ module _ (e : ℕ) where
   none-starts (x ∷ xs) a = lt-no e (lastOr x xs .start) (all-end (λ (r : Region). r .start ≤ e) x xs a)
 
 -- what all of a filter have, each has if it passes
-unfiltered : (p : Region → Bool) (P : Region → Type 0) (xs : List Region) → All P (filter p xs) → All (λ x. T (p x) → P x) xs
+pub unfiltered : (p : Region → Bool) (P : Region → Type 0) (xs : List Region) → All P (filter p xs) → All (λ x. T (p x) → P x) xs
 unfolding filter
 unfiltered p P [] a = tt
 unfiltered p P (x ∷ xs) a =
@@ -96,7 +89,7 @@ module _ (r : Region) (long : r .start < r .end) where
       let u = c .within (reaches-says (r .end) x .so-yes (g, b)) in omega arith) in
       n (omega arith))
 
-  nests-clear : (x : Region) → x .start < x .end → crosses r x ≡ false → Clear x
+  pub nests-clear : (x : Region) → x .start < x .end → crosses r x ≡ false → Clear x
   nests-clear x w f =
       let never = false-so (crosses-says r x) f in
       record {
@@ -113,22 +106,23 @@ module _ (r : Region) (long : r .start < r .end) where
             ]);
       }
 
+-- two tests that fail together are one; neither of two
+pub fail-together : (a b : Bool) → (a ≡ false → b ≡ false) → (b ≡ false → a ≡ false) → a ≡ b
+fail-together true true f g = refl
+fail-together true false f g = absurd (true≢false (g refl))
+fail-together false b f g = sym (f refl)
+
+pub or-none : (a b : Bool) → a ≡ false → b ≡ false → (a || b) ≡ false
+or-none a b e f = rw (e, f)
+
 -- THE TEST
 pub crossing-test : (S : Set) (r : Region) → Rising (S .regions) → Nesting (S .regions) → All (λ (x : Region). x .start < x .end) (S .regions) → r .start < r .end → heldAt (r .start) S ≡ false
     → crossed r S ≡ (endsBy (r .end) (innermost (reach (r .start) S)) || (heldAt (r .end) S || startsPast (r .start) (innermost (reach (r .end) S))))
 crossing-test S r h k w long free =
-    same (crossed r S) (endsBy (r .end) (innermost (reach (r .start) S)) || (heldAt (r .end) S || startsPast (r .start) (innermost (reach (r .end) S)))) to from
+    fail-together (crossed r S) (endsBy (r .end) (innermost (reach (r .start) S)) || (heldAt (r .end) S || startsPast (r .start) (innermost (reach (r .end) S)))) to from
   where
-    same : (a b : Bool) → (a ≡ false → b ≡ false) → (b ≡ false → a ≡ false) → a ≡ b
-    same true true f g = refl
-    same true false f g = absurd (true≢false (g refl))
-    same false b f g = sym (f refl)
-
     free-all : All (λ (x : Region). x .start ≡ r .start → ⊥) (S .regions)
     free-all = all-mono (λ x f q. false-so (at-says (r .start) x) f q) (S .regions) (none-of (isAt (r .start)) (S .regions) (some-none _ free))
-
-    or-none : (a b : Bool) → a ≡ false → b ≡ false → (a || b) ≡ false
-    or-none a b e f = rw (e, f)
 
     to : crossed r S ≡ false → (endsBy (r .end) (innermost (reach (r .start) S)) || (heldAt (r .end) S || startsPast (r .start) (innermost (reach (r .end) S)))) ≡ false
     to c =
@@ -140,10 +134,10 @@ crossing-test S r h k w long free =
 
     from : (endsBy (r .end) (innermost (reach (r .start) S)) || (heldAt (r .end) S || startsPast (r .start) (innermost (reach (r .end) S)))) ≡ false → crossed r S ≡ false
     from c =
-        let a = ends-none (r .end) (reach (r .start) S) (reach-inward S (r .start) h k w) (or-false-left _ _ c) in
+        let a = ends-none (r .end) (reach (r .start) S) (reach-inward S (r .start) h k) (or-false-left _ _ c) in
         let d = or-false-right (endsBy (r .end) (innermost (reach (r .start) S))) _ c in
         let b = none-of (isAt (r .end)) (S .regions) (some-none _ (or-false-left _ _ d)) in
-        let f = starts-none (r .start) (reach (r .end) S) (reach-inward S (r .end) h k w) (or-false-right (heldAt (r .end) S) _ d) in
+        let f = starts-none (r .start) (reach (r .end) S) (reach-inward S (r .end) h k) (or-false-right (heldAt (r .end) S) _ d) in
         let ends = unfiltered (reaches (r .start)) (λ (x : Region). r .end < x .end) (S .regions) a in
         let starts = unfiltered (reaches (r .end)) (λ (x : Region). x .start ≤ r .start) (S .regions) f in
         let clear = all-two {R = Clear r long}

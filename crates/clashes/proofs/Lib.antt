@@ -1,3 +1,4 @@
 pub mod Crossing
 pub mod Starts
 pub mod Reaching
+pub mod Levels

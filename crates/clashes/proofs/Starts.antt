@@ -13,8 +13,8 @@ use Rattle.words.proofs.Says.{all-says, true-so, so-true, so-false}
 use Rattle.regions.specs.declared.Region.{Region}
 use Rattle.regions.specs.Sets.{isAt, startsFrom}
 use Rattle.regions.proofs.Means.{Formed, formed-says, at-says, from-says}
-use Rattle.regions.specs.Sound.{Rising, Nesting}
-use Rattle.regions.proofs.Rising.{nesting-says}
+use Rattle.regions.specs.Sound.{Rising, Nesting, Leveling}
+use Rattle.regions.proofs.Rising.{nesting-says, leveling-says}
 use Rattle.image.specs.Read.{setOf}
 use Rattle.image.specs.Valid.{valid}
 use Rattle.image.proofs.Facts.{valid-facts}
@@ -33,6 +33,7 @@ use Rattle.tally.specs.Tallies.{foundList}
 pub record Ordered (rs : List Region) : Type 0 where
   pub rising : Rising rs
   pub nesting : Nesting rs
+  pub leveling : Leveling rs
   pub long : All (λ (r : Region). r .start < r .end) rs
 
 pub ordered : (w : List ℕ) → T (valid w) → Ordered (setOf w .regions)
@@ -41,6 +42,7 @@ ordered w t =
     record {
       rising = set-rises w t;
       nesting = nesting-says (setOf w .regions) .yes-so (f .nest);
+      leveling = leveling-says (setOf w .regions) .yes-so (f .level);
       long = all-mono (λ (r : Region) (m : Formed r). m .order) (setOf w .regions) (all-says formed-says (setOf w .regions) .yes-so (f .formed));
     }
 

@@ -1,4 +1,4 @@
--- The regions that reach a position from the left, and what the innermost of them says of a crossing.
+-- The regions that reach a position from the left, and what the innermost of them says of a crossing and of levels.
 -- Assumes nothing.
 use Prim.Native.Nat.{ℕ}
 use mathlib.Core.Bool.{Bool, false, _&&_}
@@ -15,7 +15,7 @@ reaches x r = ltb (r .start) x && leb x (r .end)
 abbrev pub reach : ℕ → Set → List Region
 reach x S = filter (reaches x) (S .regions)
 
--- of none or one region: it ends at or before e; it starts behind s
+-- of none or one region: it ends at or before e; it starts behind s; its level is l or above
 unfoldable pub endsBy : ℕ → List Region → Bool
 endsBy e [] = false
 endsBy e (r ∷ rs) = leb (r .end) e
@@ -23,3 +23,7 @@ endsBy e (r ∷ rs) = leb (r .end) e
 unfoldable pub startsPast : ℕ → List Region → Bool
 startsPast s [] = false
 startsPast s (r ∷ rs) = ltb s (r .start)
+
+unfoldable pub levelFrom : ℕ → List Region → Bool
+levelFrom l [] = false
+levelFrom l (r ∷ rs) = leb l (r .level)

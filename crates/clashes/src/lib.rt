@@ -1,15 +1,15 @@
-// Whether a start is held, and whether a region crosses a held one, by descents alone.
+// Whether a start is held, and whether a region crosses a held one, by descents alone; and whether its level contradicts a held one's, by one of these and a walk over what lies inside.
 ghost use mathlib.Core.Path.{_≡_};
 ghost use mathlib.Core.Bool.{false};
 ghost use Prim.Native.Nat.{_<_};
 ghost use lib.Dec.{T};
 ghost use Rattle.words.specs.Lists.{filter, some};
-ghost use Rattle.regions.specs.Sets.{isAt, heldAt, crossed};
+ghost use Rattle.regions.specs.Sets.{isAt, heldAt, crossed, contradicted};
 ghost use Rattle.regions.specs.Calls.{ancestors, innermost};
 ghost use Rattle.image.specs.Read.{setOf};
 ghost use Rattle.image.specs.Valid.{valid};
 ghost use Rattle.tally.specs.Tallies.{foundList};
-ghost use Rattle.clashes.specs.Reach.{reach, endsBy, startsPast};
+ghost use Rattle.clashes.specs.Reach.{reach, endsBy, startsPast, levelFrom};
 use leaves::Step;
 use regions::Region;
 use tally::Found;
@@ -88,15 +88,25 @@ fn starts_past(f: Found, s: u32) -> bool
     s < a.start
 }
 
-// WHETHER A REGION CROSSES A HELD ONE, for a region whose start is not held: what reaches its start ends in it, its end is a held start, or what reaches its end
+// Whether one was found whose level is not below the given one.
+fn level_from(f: Found, level: u32) -> bool
+    ensures { λ t. ⌜ t ≡ levelFrom level (foundList f) ⌝ }
+{
+    let Found::At(a) = f else {
+        return false;
+    };
+    level <= a.level
+}
+
+// WHETHER A REGION CROSSES A HELD ONE, for a region whose start is not held, given what reaches its start: that ends in it, its end is a held start, or what reaches its end
 // starts in it. Of those that reach a position the innermost ends first and starts last, so that it alone is looked at.
-pub fn crosses_held(img: &[u32], r: Region) -> bool
+pub fn crosses_held(img: &[u32], r: Region, before: Found) -> bool
     requires { ⌜ T (valid (now img)) ⌝ }
     requires { ⌜ r .start < r .end ⌝ }
     requires { ⌜ heldAt (r .start) (setOf (now img)) ≡ false ⌝ }
+    requires { ⌜ foundList before ≡ innermost (reach (r .start) (setOf (now img))) ⌝ }
     ensures { λ t. ⌜ t ≡ crossed r (setOf (now (img .entry))) ⌝ }
 {
-    let before = innermost_at(img, r.start);
     if ends_by(before, r.end) {
         return true;
     }
@@ -106,4 +116,19 @@ pub fn crosses_held(img: &[u32], r: Region) -> bool
     }
     let inner = innermost_at(img, r.end);
     starts_past(inner, r.start)
+}
+
+// WHETHER A REGION'S LEVEL CONTRADICTS A HELD ONE'S, for a region that crosses none, given what reaches its start: what does contains it, and of these the innermost has
+// the highest level, so that it alone is looked at. What starts inside lies inside, and is looked at until one contradicts.
+pub fn contradicts_held(img: &[u32], r: Region, before: Found) -> bool
+    requires { ⌜ T (valid (now img)) ⌝ }
+    requires { ⌜ r .start < r .end ⌝ }
+    requires { ⌜ crossed r (setOf (now img)) ≡ false ⌝ }
+    requires { ⌜ foundList before ≡ innermost (reach (r .start) (setOf (now img))) ⌝ }
+    ensures { λ t. ⌜ t ≡ contradicted r (setOf (now (img .entry))) ⌝ }
+{
+    if level_from(before, r.level) {
+        return true;
+    }
+    inside::some_up_to(img, r.start, r.end, r.level)
 }

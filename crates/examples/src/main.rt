@@ -1,5 +1,5 @@
-// Runs the examples of document 01 that are no theorems, and those traps of its source that a run can show. Each is compared with the answer that the document gives,
-// and has a line: its name, and `right`, or `wrong` with what came out and what should have.
+// Runs the examples of document 01 that are no theorems, and those traps of its source that a run can show. Each is compared with the answer that the document gives
+// (or change request C-15, on levels), and has a line: its name, and `right`, or `wrong` with what came out and what should have.
 use regions::Kind;
 use regions::Region;
 use regions::Seat;
@@ -65,12 +65,30 @@ fn open_inner(img: &mut [u32]) {
     save(img, 95, 96, 1, 205);
 }
 
-// REGION, and a region around all others.
+// REGION.
 fn saves(outer: &mut [u32]) {
     open_outer(outer, 10);
     check(b"save (7, 7)", save(outer, 7, 7, 1, 0), 2);
     check(b"save (65530, 65540)", save(outer, 65530, 65540, 1, 0), 2);
-    check(b"save (5, 95) at level 1", save(outer, 5, 95, 1, 105), 0);
+}
+
+// LEVEL (change request C-15): around all others there is no level left; around (60, 80) and inside (30, 40) the level may not be theirs.
+fn levels(outer: &mut [u32]) {
+    open_outer(outer, 10);
+    check(b"save (5, 95) at level 1", save(outer, 5, 95, 1, 105), 14);
+    check(b"save (55, 85) at level 2", save(outer, 55, 85, 2, 105), 14);
+    check(b"save (33, 37) at level 3", save(outer, 33, 37, 3, 105), 14);
+    check(b"save (33, 37) at level 4", save(outer, 33, 37, 4, 105), 0);
+}
+
+// SHARE comes after LEVEL.
+fn full_levels(outer: &mut [u32]) {
+    open_outer(outer, 4);
+    check(
+        b"with share 4, save (5, 95)",
+        save(outer, 5, 95, 1, 105),
+        14,
+    );
 }
 
 // SHARE comes after CROSS, and a delete gives the room back.
@@ -224,6 +242,8 @@ fn main() {
     let mut outer = [0u32; pages::IMAGE_WORDS];
     let mut inner = [0u32; pages::IMAGE_WORDS];
     saves(&mut outer);
+    levels(&mut outer);
+    full_levels(&mut outer);
     full_account(&mut outer);
     open_outer(&mut outer, 10);
     open_inner(&mut inner);

@@ -8,8 +8,8 @@ use lib.ListN.{length}
 use native.Mathlib.Omega.{arith}
 use Rattle.words.specs.Lists.{filter, All}
 use Rattle.words.proofs.Listed.{all-mono, filter-none}
-use Rattle.words.proofs.Counted.{filter-short}
-use Rattle.regions.specs.Positions.{holds, lowest}
+use Rattle.regions.specs.Limits.{mostAround}
+use Rattle.regions.specs.Positions.{lowest}
 use Rattle.regions.specs.Sets.{startsFrom}
 use Rattle.regions.specs.Sound.{Wf, Rising, Sound}
 use Rattle.regions.specs.Calls.{regionWords, ancestors}
@@ -28,24 +28,25 @@ use Rattle.leaves.specs.Faces.{Faces}
 use Rattle.leaves.proofs.Faces.{faces-on, faces-end, faced-is}
 use Rattle.tally.specs.declared.Tally.{Tally}
 use Rattle.tally.specs.Tallies.{AncestorsFound}
-use Rattle.stack.specs.Stacks.{holdsUpTo, endsBehind, Falling, stacked}
-use Rattle.stack.proofs.Stacks.{upto-says, upto-strict, holders-fall, holders-kept, come-all, come-same, First, first-from, come-one, front-few}
+use Rattle.stack.specs.Stacks.{heldWords, holdsUpTo, endsBehind, Falling, stacked}
+use Rattle.stack.proofs.Stacks.{upto-says, upto-strict, holders-fall, holders-few, holders-kept, come-all, come-same, First, first-from, come-one, front-few}
 use Rattle.stack.proofs.Stacked.{stacked-long, stacked-all}
 use Rattle.follow.specs.declared.Stack.{Stack}
 use Rattle.follow.specs.Places.{Placed, Behind, Coming}
 
 -- A SEARCH: all ancestors have room
-pub refilled : (w : List ℕ) (p n : ℕ) (held held′ : List ℕ) (t : Tally) (c : Cursor) → length held ≡ 2000 → length (setOf w .regions) ≤ 500
+pub refilled : (w : List ℕ) (p n : ℕ) (held held′ : List ℕ) (t : Tally) (c : Cursor) → length held ≡ heldWords → Sound (setOf w)
     → AncestorsFound (ancestors p (setOf w)) n held held′ t → Faces w c (filter (startsFrom p) (setOf w .regions)) → Placed w p p held′ (record { n = t .total; cur = c })
-refilled w p n held held′ t c l few f faces =
+refilled w p n held held′ t c l s f faces =
     let xs = ancestors p (setOf w) in
     let is : held′ ≡ writtenFrom regionWords 4 0 held xs = f .words ∙ sym (from-first regionWords 4 held xs) in
+    let same = upto-strict p (setOf w .regions) in
     record {
       long = ap length is ∙ from-long regionWords 4 0 held xs ∙ l;
       stack =
           ap₂ stacked is (f .total)
-          ∙ stacked-all xs held (omega (arith, filter-short (holds p) (setOf w .regions)))
-          ∙ sym (upto-strict p (setOf w .regions));
+          ∙ stacked-all xs held (omega (arith, ap length same, holders-few p p (omega arith) (setOf w) s))
+          ∙ sym same;
       faces = faces;
     }
 
@@ -72,7 +73,7 @@ behind-later l k b =
       placed = b .placed;
     }
 
-pub begun : (w : List ℕ) (a y p : ℕ) (held : List ℕ) (c : Cursor) → Sound (setOf w) → length held ≡ 2000 → y ≡ lowest a → lowest a ≤ p → Faces w c (filter (startsFrom y) (setOf w .regions))
+pub begun : (w : List ℕ) (a y p : ℕ) (held : List ℕ) (c : Cursor) → Sound (setOf w) → length held ≡ heldWords → y ≡ lowest a → lowest a ≤ p → Faces w c (filter (startsFrom y) (setOf w .regions))
     → Behind w p p held (record { n = 0; cur = c })
 unfolding stacked
 begun w a y p held c s l e h f =
@@ -80,8 +81,8 @@ begun w a y p held c s l e h f =
     (placed-behind (omega arith) (record { long = l; stack = sym (low-none a (setOf w .regions) (s .formed)); faces = rw e at f }))
 
 -- FROM ONE PLACE TO THE NEXT
-pub placed-few : {w : List ℕ} {z p : ℕ} {held : List ℕ} {t : Stack} → Placed w z p held t → length (setOf w .regions) ≤ 500 → t .n ≤ 500
-placed-few {w} {z} {p} {held} {t} b k = omega (arith, ap length (b .stack), stacked-long held (t .n), filter-short (holdsUpTo z p) (setOf w .regions))
+pub placed-few : {w : List ℕ} {z p : ℕ} {held : List ℕ} {t : Stack} → z ≤ suc p → Placed w z p held t → Sound (setOf w) → t .n ≤ mostAround
+placed-few {w} {z} {p} {held} {t} l b s = omega (arith, ap length (b .stack), stacked-long held (t .n), holders-few z p l (setOf w) s)
 
 module _ {w : List ℕ} {z p : ℕ} {held : List ℕ} {t : Stack} (b : Behind w z p held t) where
   pub behind-falls : Sound (setOf w) → Falling (stacked held (t .n))
@@ -124,8 +125,8 @@ module _ {w : List ℕ} {z p : ℕ} {held : List ℕ} {n : ℕ} {c : Cursor} (k 
     pub coming-stop : z ≤ e .region .start → Placed w z p held (record { n = n; cur = c })
     coming-stop l = arrived (rw is (all-mono {Q = λ r. z ≤ r .start} (λ r m. omega arith) (e .region ∷ rest) (first .least)))
 
-    pub coming-room : length (setOf w .regions) ≤ 500 → n < 500
-    coming-room l = omega (arith, front-few (k .at) z p (setOf w .regions) (e .region) rest first, ap length (k .stack), stacked-long held n)
+    pub coming-room : Sound (setOf w) → e .region .start < z → z ≤ suc p → n < mostAround
+    coming-room g l m = omega (arith, front-few (k .at) z p (setOf w) g (e .region) rest first l m, ap length (k .stack), stacked-long held n)
 
     pub coming-on : (held′ : List ℕ) (m : ℕ) → e .region .start < z → length held′ ≡ length held → stacked held′ m ≡ stacked held n ++ filter (endsBehind p) (e .region ∷ [])
         → Coming w z p held′ (record { n = m; cur = on })

@@ -7,7 +7,7 @@ use lib.Dec.{T, leb, eqb, leb→le, le→leb, eqb→eq}
 use lib.ListN.{length}
 use Rattle.words.specs.Lists.{all, allPairs, sum}
 use Rattle.words.proofs.Tests.{T-of, and-left, and-right, and-both, eq-yes}
-use Rattle.regions.specs.Positions.{wellFormed, nested}
+use Rattle.regions.specs.Positions.{wellFormed, nested, leveled}
 use Rattle.xrtree.specs.Tree.{regions, leaves, pagePlaces, recordPlaces}
 use Rattle.xrtree.specs.Rules.{filled, linked, startsFirst, rule1, rule2, rule3, rule4, rule5, rule6, sharesKept, placed}
 use Rattle.pages.specs.Layout.{heightOf, pageUsed, recordUsed}
@@ -27,6 +27,7 @@ pub record Facts (w : List ℕ) : Type 0 where
   pub fifth : T (rule5 (depthOf w) (treeOf w))
   pub formed : T (all wellFormed (setOf w .regions))
   pub nest : T (allPairs nested (setOf w .regions))
+  pub level : T (allPairs leveled (setOf w .regions))
   pub kept : T (sharesKept 16 (setOf w))
   pub sums : T (leb (sum (setOf w .shares)) 500)
   pub pages : T (placed (pageUsed w) 160 (pagePlaces (depthOf w) (treeOf w)))
@@ -49,6 +50,7 @@ valid-facts w v =
     let one′ = and-right (filled (depthOf w) (treeOf w)) _ one in
     let six′ = and-right (all wellFormed (setOf w .regions)) _ six in
     let six″ = and-right (allPairs nested (setOf w .regions)) _ six′ in
+    let six‴ = and-right (allPairs leveled (setOf w .regions)) _ six″ in
     record {
       long = eqb→eq (length w) 12288 (and-left (eqb (length w) 12288) _ s);
       low = leb→le 1 (heightOf w) (and-left (leb 1 (heightOf w)) _ high);
@@ -62,8 +64,9 @@ valid-facts w v =
       fifth = and-right (rule4 (depthOf w) (treeOf w)) _ four;
       formed = and-left (all wellFormed (setOf w .regions)) _ six;
       nest = and-left (allPairs nested (setOf w .regions)) _ six′;
-      kept = and-left (sharesKept 16 (setOf w)) _ six″;
-      sums = and-right (sharesKept 16 (setOf w)) _ six″;
+      level = and-left (allPairs leveled (setOf w .regions)) _ six″;
+      kept = and-left (sharesKept 16 (setOf w)) _ six‴;
+      sums = and-right (sharesKept 16 (setOf w)) _ six‴;
       pages = and-left (placed (pageUsed w) 160 (pagePlaces (depthOf w) (treeOf w))) _ seven;
       records = and-right (placed (pageUsed w) 160 (pagePlaces (depthOf w) (treeOf w))) _ seven;
     }
@@ -79,5 +82,6 @@ facts-valid w f =
     (and-both (rule2 (depthOf w) (treeOf w)) _ (f .second)
     (and-both (rule3 (depthOf w) (treeOf w)) _ (f .third) (and-both (rule4 (depthOf w) (treeOf w)) _ (f .fourth) (f .fifth)))))
     (and-both (rule6 (setOf w)) _
-    (and-both (all wellFormed (setOf w .regions)) _ (f .formed) (and-both (allPairs nested (setOf w .regions)) _ (f .nest) (and-both (sharesKept 16 (setOf w)) _ (f .kept) (f .sums))))
+    (and-both (all wellFormed (setOf w .regions)) _ (f .formed) (and-both (allPairs nested (setOf w .regions)) _ (f .nest)
+    (and-both (allPairs leveled (setOf w .regions)) _ (f .level) (and-both (sharesKept 16 (setOf w)) _ (f .kept) (f .sums)))))
     (and-both (placed (pageUsed w) 160 (pagePlaces (depthOf w) (treeOf w))) _ (f .pages) (f .records))))

@@ -1,4 +1,4 @@
--- The set that a valid image means has what every set has: its regions ascend, nest and are well formed, no account is above its share, and there are at most 500.
+-- The set that a valid image means has what every set has: its regions ascend, nest, are leveled as they nest and well formed, no account is above its share, and there are at most 500.
 -- Assumes nothing.
 use Prim.Native.Nat.{ℕ, zero, suc, _<_, _≤_}
 use mathlib.Core.Path.{_≡_, ap}
@@ -15,7 +15,7 @@ use Rattle.regions.specs.Positions.{account, wellFormed}
 use Rattle.regions.specs.Sets.{Set, of, heldBy, shareOf}
 use Rattle.regions.specs.declared.Region.{Region}
 use Rattle.regions.specs.Sound.{Wf, Rising, Sound}
-use Rattle.regions.proofs.Rising.{nesting-says, few}
+use Rattle.regions.proofs.Rising.{nesting-says, leveling-says, few}
 use Rattle.xrtree.specs.Rules.{startsFirst, sharesKept}
 use Rattle.pages.specs.Layout.{rootOf, sharesOf}
 use Rattle.image.specs.Read.{depthOf, setOf}
@@ -51,6 +51,7 @@ module _ (w : List ℕ) (small : Small w) (v : T (valid w)) where
         formed = all-says {p = wellFormed} {M = Wf} (λ r. record { yes-so = of-T (wellFormed r); so-yes = λ e. T-of e }) (setOf w .regions) .yes-so (f .formed);
         rising = set-rises w v;
         nesting = nesting-says (setOf w .regions) .yes-so (f .nest);
+        leveling = leveling-says (setOf w .regions) .yes-so (f .level);
         within = λ a. by-test (ltb a 16) (λ t. kept-below 16 (setOf w) (f .kept) a (lt-of a 16 t)) (λ t. omega (arith, held-none a (nlt-of a 16 t)));
         shared = leb→le _ 500 (f .sums);
       }

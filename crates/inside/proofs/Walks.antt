@@ -4,16 +4,16 @@ use Prim.Native.Nat.{ℕ, suc, _+_, _<_, _≤_, max}
 use mathlib.Core.Path.{_≡_, refl, sym, ap, _∙_}
 use mathlib.Core.Bool.{Bool, true, false, _&&_}
 use mathlib.Core.List.{List, [], _∷_, _++_}
-use lib.Dec.{T}
+use lib.Dec.{T, leb, ltb}
 use lib.ListN.{length, length-append}
 use native.Mathlib.Omega.{arith}
-use Rattle.words.specs.Lists.{filter}
-use Rattle.words.proofs.Tests.{by-test, lt-yes, lt-no, and-false}
-use Rattle.words.proofs.Listed.{all-mono, all-every, filter-all, filter-none, filter-filter, filter-both, pairs-kept}
-use Rattle.words.proofs.Says.{Says, and-says, lt-says}
+use Rattle.words.specs.Lists.{filter, some}
+use Rattle.words.proofs.Tests.{by-test, lt-yes, lt-no, and-false, and-comm, and-assoc}
+use Rattle.words.proofs.Listed.{all-mono, all-every, filter-all, filter-none, filter-same, filter-filter, pairs-kept}
+use Rattle.words.proofs.Says.{says-same, says-iff, and-says}
 use Rattle.regions.specs.Positions.{inside, isBelow}
 use Rattle.regions.specs.Sets.{Set, startsBehind, startsFrom}
-use Rattle.regions.specs.Calls.{room, written, countWritten, regionWords, descendants, children}
+use Rattle.regions.specs.Calls.{room, written, countWritten, moreRemain, regionWords, descendants, children}
 use Rattle.regions.specs.declared.Region.{Region}
 use Rattle.regions.proofs.Fits.{count-is, more-is}
 use Rattle.regions.proofs.Means.{inside-says, behind-says, behind-from}
@@ -30,8 +30,8 @@ use Rattle.leaves.specs.Cursors.{stepFrom}
 use Rattle.leaves.specs.Faces.{Faces}
 use Rattle.leaves.proofs.Faces.{faces-on, faces-end}
 use Rattle.inside.specs.declared.Wanted.{Wanted}
-use Rattle.inside.specs.declared.Wanted.the-variants.{All as Every, Below}
-use Rattle.inside.specs.Lists.{wants, asked, Listed}
+use Rattle.inside.specs.declared.Wanted.the-variants.{All as Every, Below, UpTo}
+use Rattle.inside.specs.Lists.{upTo, wants, asked, Listed}
 
 -- ONE REGION, wanted or not
 pub wants-all : (v : Wanted) (r : Region) → v ≡ Every → true ≡ wants v r
@@ -41,6 +41,10 @@ wants-all v r e = rw e
 pub wants-below : (v : Wanted) (r : Region) (l : ℕ) → v ≡ Below l → isBelow l r ≡ wants v r
 unfolding wants
 wants-below v r l e = rw e
+
+pub wants-up-to : (v : Wanted) (r : Region) (l : ℕ) → v ≡ UpTo l → leb (r .level) l ≡ wants v r
+unfolding wants upTo
+wants-up-to v r l e = rw e
 
 -- it is passed by, or counted and written
 abbrev pub Took : Wanted → Region → List ℕ → ℕ → List ℕ → ℕ → Type 0
@@ -139,34 +143,38 @@ module _ {w : List ℕ} {v : Wanted} {end : ℕ} {goal : List Region} {out₀ : 
         total = omega (arith, t .1, k .total, ap length split, length-append one more);
       }
 
--- WHAT IT LISTS, from behind the bounds' start and `after` on: the descendants, the children
-itself : (b : Bool) → Says b (T b)
-itself b = record { yes-so = λ t. t; so-yes = λ t. t }
-
-asked-inside : (v : Wanted) (s e after m : ℕ) (rs : List Region) → m ≡ max s after
-    → filter (asked v e) (filter (startsBehind m) rs) ≡ filter (wants v) (filter (startsBehind after) (filter (inside s e) rs))
-unfolding asked
-asked-inside v s e after m rs h =
-    filter-filter (startsBehind m) (λ r. asked v e r) rs ∙ filter-both _ _ to from rs
-    ∙ sym (ap (filter (wants v)) (filter-filter (inside s e) (startsBehind after) rs) ∙ filter-filter (λ r. inside s e r && startsBehind after r) (wants v) rs)
+-- WHAT IT LISTS, from behind the bounds' start on: those inside that are wanted; from behind `after` too, the descendants, the children
+asked-inside : (v : Wanted) (s e : ℕ) (rs : List Region) → filter (asked v e) (filter (startsBehind s) rs) ≡ filter (wants v) (filter (inside s e) rs)
+unfolding startsBehind asked inside
+asked-inside v s e rs =
+    filter-filter (startsBehind s) (asked v e) rs
+    ∙ filter-same _ _ rs (all-every {P = λ r. (startsBehind s r && asked v e r) ≡ (inside s e r && wants v r)} same rs)
+    ∙ sym (filter-filter (inside s e) (wants v) rs)
   where
-    here : (r : Region) → Says (startsBehind m r && asked v e r) ((m < r .start) × (T (wants v r) × (r .start < e)))
-    here r = and-says (behind-says m r) (and-says (itself (wants v r)) (lt-says (r .start) e))
+    same : (r : Region) → (startsBehind s r && asked v e r) ≡ (inside s e r && wants v r)
+    same r = ap (ltb s (r .start) &&_) (and-comm (wants v r) (ltb (r .start) e)) ∙ sym (and-assoc (ltb s (r .start)) (ltb (r .start) e) (wants v r))
 
-    there : (r : Region) → Says ((inside s e r && startsBehind after r) && wants v r) ((((s < r .start) × (r .start < e)) × (after < r .start)) × T (wants v r))
-    there r = and-says (and-says (inside-says s e r) (behind-says after r)) (itself (wants v r))
-
-    to : (r : Region) → T (startsBehind m r && asked v e r) → T ((inside s e r && startsBehind after r) && wants v r)
-    to r t = let f = here r .yes-so t in there r .so-yes (((omega arith, omega arith), omega arith), f .1 .0)
-
-    from : (r : Region) → T ((inside s e r && startsBehind after r) && wants v r) → T (startsBehind m r && asked v e r)
-    from r t = let f = there r .yes-so t in here r .so-yes (omega arith, (f .1, omega arith))
+inside-behind : (s e after m : ℕ) (rs : List Region) → m ≡ max s after → filter (inside m e) rs ≡ filter (startsBehind after) (filter (inside s e) rs)
+inside-behind s e after m rs h =
+    filter-same _ _ rs (all-every {P = λ r. inside m e r ≡ (inside s e r && startsBehind after r)} same rs) ∙ sym (filter-filter (inside s e) (startsBehind after) rs)
+  where
+    same : (r : Region) → inside m e r ≡ (inside s e r && startsBehind after r)
+    same r =
+        says-same (inside-says m e r)
+        (says-iff (and-says (inside-says s e r) (behind-says after r)) (λ f. (omega arith, omega arith)) (λ f. ((omega arith, omega arith), omega arith)))
 
 pub lists-descendants : (s e after m : ℕ) (v : Wanted) (S : Set) → m ≡ max s after → v ≡ Every → filter (asked v e) (filter (startsBehind m) (S .regions)) ≡ descendants s e after S
 unfolding wants
 lists-descendants s e after m v S h k =
-    asked-inside v s e after m (S .regions) h ∙ rw k (filter-all (wants Every) (descendants s e after S) (all-every (λ r. refl) (descendants s e after S)))
+    asked-inside v m e (S .regions) ∙ ap (filter (wants v)) (inside-behind s e after m (S .regions) h)
+    ∙ rw k (filter-all (wants Every) (descendants s e after S) (all-every (λ r. refl) (descendants s e after S)))
 
 pub lists-children : (s e l after m : ℕ) (v : Wanted) (S : Set) → m ≡ max s after → v ≡ Below l → filter (asked v e) (filter (startsBehind m) (S .regions)) ≡ children s e l after S
 unfolding wants
-lists-children s e l after m v S h k = asked-inside v s e after m (S .regions) h ∙ rw k
+lists-children s e l after m v S h k = asked-inside v m e (S .regions) ∙ ap (filter (wants v)) (inside-behind s e after m (S .regions) h) ∙ rw k
+
+-- WHERE NONE FITS, more remain as soon as one is asked for
+pub some-wanted : (s e l : ℕ) (v : Wanted) (S : Set) (out : List ℕ) (t : Bool) → v ≡ UpTo l → room 4 out ≡ 0
+    → t ≡ moreRemain 4 out (filter (asked v e) (filter (startsBehind s) (S .regions))) → t ≡ some (filter (upTo l) (filter (inside s e) (S .regions)))
+unfolding wants moreRemain
+some-wanted s e l v S out t k none h = h ∙ rw none (ap some (asked-inside v s e (S .regions) ∙ rw k))

@@ -4,19 +4,24 @@ use Prim.Native.Nat.{ℕ}
 use mathlib.Core.Path.{_≡_}
 use mathlib.Core.Bool.{Bool, true, _&&_}
 use mathlib.Core.List.{List}
-use lib.Dec.{ltb}
+use lib.Dec.{leb, ltb}
 use Rattle.regions.specs.Positions.{isBelow}
 use Rattle.regions.specs.Limits.{regionWidth}
 use Rattle.regions.specs.Calls.{written, countWritten, moreRemain, regionWords}
 use Rattle.regions.specs.declared.Region.{Region}
 use Rattle.inside.specs.declared.Wanted.{Wanted}
-use Rattle.inside.specs.declared.Wanted.the-variants.{All, Below}
+use Rattle.inside.specs.declared.Wanted.the-variants.{All, Below, UpTo}
 use Rattle.inside.specs.declared.Listing.{Listing}
 
--- all, or those one level below
+-- a level that is not above the given one
+unfoldable pub upTo : ℕ → Region → Bool
+upTo l r = leb (r .level) l
+
+-- all, those one level below, or those whose level is not above
 unfoldable pub wants : Wanted → Region → Bool
 wants All r = true
 wants (Below l) r = isBelow l r
+wants (UpTo l) r = upTo l r
 
 -- of those that start before the end
 unfoldable pub asked : Wanted → ℕ → Region → Bool

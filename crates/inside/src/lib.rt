@@ -4,20 +4,22 @@ ghost use mathlib.Core.List.{[], _∷_};
 ghost use Prim.Native.Nat.{_+_, _/_, _≤_, max};
 ghost use lib.Dec.{T};
 ghost use lib.ListN.{length};
-ghost use Rattle.words.specs.Lists.{filter};
+ghost use Rattle.words.specs.Lists.{filter, some};
+ghost use Rattle.regions.specs.Positions.{inside};
 ghost use Rattle.regions.specs.Sets.{startsBehind};
 ghost use Rattle.regions.specs.Calls.{regionWords, descendants, children};
 ghost use Rattle.image.specs.Read.{setOf};
 ghost use Rattle.image.specs.Valid.{valid};
 ghost use Rattle.answers.specs.Items.{writtenFrom};
-ghost use Rattle.inside.specs.Lists.{wants, asked, Listed};
+ghost use Rattle.inside.specs.Lists.{upTo, wants, asked, Listed};
 use leaves::Step;
 use regions::Region;
 
-// Which of the regions inside are asked for: all, or those one level below the given one.
+// Which of the regions inside are asked for: all, those one level below the given one, or those whose level is not above it.
 pub enum Wanted {
     All,
     Below(u32),
+    UpTo(u32),
 }
 
 // How many regions were written, and whether more remain.
@@ -32,6 +34,7 @@ fn is_wanted(wanted: Wanted, r: Region) -> bool
     match wanted {
         Wanted::All => true,
         Wanted::Below(level) => regions::is_below(level, r),
+        Wanted::UpTo(level) => r.level <= level,
     }
 }
 
@@ -104,4 +107,15 @@ pub fn children(
     ensures { λ r. ⌜ Listed (children start end level after (setOf (now (img .entry)))) (now (out .entry)) (now (out .exit)) r ⌝ }
 {
     walk(img, later(start, after), end, Wanted::Below(level), out)
+}
+
+// WHETHER SOME REGION inside the bounds has a level that is not above the given one. One word has no room for a region, so the first such region ends the walk, and
+// none is written.
+pub fn some_up_to(img: &[u32], start: u32, end: u32, level: u32) -> bool
+    requires { ⌜ T (valid (now img)) ⌝ }
+    ensures { λ t. ⌜ t ≡ some (filter (upTo level) (filter (inside start end) (setOf (now (img .entry)) .regions))) ⌝ }
+{
+    let mut no_room = [0u32; 1];
+    let found = walk(img, start, end, Wanted::UpTo(level), &mut no_room);
+    found.more
 }

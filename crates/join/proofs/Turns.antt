@@ -224,8 +224,8 @@ module _ {w v : List ℕ} {a : ℕ} {k : Kind} {m : Mark} {all : Bool} {out₀ :
     pub join-less : length (left v r) < length (left v c)
     join-less = omega (arith, faces-long v (next .faces), faces-long v (j .faces), fewer)
 
-    pub join-on : Sound (setOf w) → length (setOf w .regions) ≤ 500 → Joining w v a k m all out₀ r held′ t′ out′ n′
-    join-on x few =
+    pub join-on : Sound (setOf w) → Joining w v a k m all out₀ r held′ t′ out′ n′
+    join-on x =
         let d = e .region in
         let h = own-next a (stepFrom v c) e on s .1 in
         let is = first e on s in
@@ -244,6 +244,6 @@ module _ {w v : List ℕ} {a : ℕ} {k : Kind} {m : Mark} {all : Bool} {out₀ :
           total =
               alike (n′ + length (ahead (next .at))) ∙ both .1 ∙ sym (alike (n + length (qs ++ ahead (next .at))))
               ∙ ap (λ (l : List Pair). counted all out₀ (n + length l)) (sym split) ∙ j .total;
-          few-total = omega (arith, g .few, stacked-long held′ (t′ .n), placed-few p few, j .few-total, fewer);
+          few-total = omega (arith, g .few, stacked-long held′ (t′ .n), placed-few (omega arith) p x, j .few-total, fewer);
           stack = behind-later (omega (arith, next .far)) (omega (arith, next .far)) (placed-behind (omega arith) p);
         }

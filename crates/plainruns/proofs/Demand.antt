@@ -18,11 +18,11 @@ use Rattle.regions.specs.declared.Region.{Region}
 use Rattle.regions.specs.declared.Open.{Open}
 use Rattle.regions.specs.declared.Seat.{Seat}
 use Rattle.regions.specs.Positions.{account, wellFormed}
-use Rattle.regions.specs.Sets.{Set, only, heldAt, crossed, heldBy}
+use Rattle.regions.specs.Sets.{Set, only, heldAt, crossed, contradicted, heldBy}
 use Rattle.regions.specs.Calls.{saveNo, pointNo, boundsNo, joinNo, ancestors, parent, descendants, children, joined, pairWords}
 use Rattle.regions.specs.Desk.{closed, openAt, seatAt, isOpen, stateHanded, stateTurned, turned, handedWords, countHanded, counts, poured, partNo, part}
 use Rattle.regions.proofs.Done.{save-done, done-save, point-done, bounds-done, part-done}
-use Rattle.regions.proofs.Local.{crossed-local, ancestors-local, parent-local, descendants-local, children-local}
+use Rattle.regions.proofs.Local.{crossed-local, contradicted-local, ancestors-local, parent-local, descendants-local, children-local}
 use Rattle.regions.specs.Sound.{Ascending}
 use Rattle.regions.proofs.Joined.{joined-ascends, past-drop}
 use Rattle.regions.proofs.Seats.{limit-small, handed-long, handed-fits, poured-long, poured-in, poured-out}
@@ -37,21 +37,24 @@ use Rattle.plainruns.proofs.Relate.{sees-of, Apart, Rel, skip, joined-s
 use Rattle.plainruns.proofs.Relate.Alike.{same}
 
 -- (a) WHEN A SAVE IS ACCEPTED. Given that nothing is wrong with the region itself, that its account is the caller's, that its start is free and that it
--- crosses none of the caller's own regions there, only the count decides: 0 is answered if, and only if, the caller holds less than was given at the
+-- crosses none of the caller's own regions there and contradicts no level of theirs, only the count decides: 0 is answered if, and only if, the caller holds less than was given at the
 -- opening. (A start is a 32-bit number, so its account is 15 at most.)
 pub theorem-a : (so si : List ℕ) {s₀ s t : State} {ds : List Done} {x : Answer} → Opened so si s₀ → Run s₀ ds s
     → (w : Which) (a : ℕ) (r : Region) → Step s (save w a r) x t
     → wellFormed r ≡ true → r .start < 4294967296 → account (r .start) ≡ a → heldAt (r .start) (setOf w s) ≡ false → crossed r (only a (setOf w s)) ≡ false
+    → contradicted r (only a (setOf w s)) ≡ false
     → (x .shown .number ≡ 0) ↔ (heldBy a (setOf w s) < shareGiven so si w a)
 unfolding answer
-theorem-a so si {s = s} {x = x} o run w a r st formed small own free clear =
+theorem-a so si {s = s} {x = x} o run w a r st formed small own free clear level =
     let g = good-reached so si o run in
     let q = share-given so si w a s g in
     let c : crossed r (setOf w s) ≡ false =
     crossed-local (setOf w s) r formed (good-set so si w s g .sound .formed) ∙ ap (λ b. crossed r (only b (setOf w s))) own ∙ clear in
+    let d : contradicted r (setOf w s) ≡ false =
+    contradicted-local (setOf w s) r formed (good-set so si w s g .sound .formed) ∙ ap (λ b. contradicted r (only b (setOf w s))) own ∙ level in
     let n : x .shown .number ≡ saveNo (setOf w s) a r = ap (λ (z : Shown). z .number) (st .answers) in (
       (λ h. let m = save-done (setOf w s) a r (sym n ∙ h) .room in omega arith),
-      (λ h. n ∙ done-save (setOf w s) a r (record { formed = formed; own = record { range = omega arith; same = own }; free = free; clear = c; room = omega arith })),
+      (λ h. n ∙ done-save (setOf w s) a r (record { formed = formed; own = record { range = omega arith; same = own }; free = free; clear = c; level = d; room = omega arith })),
     )
 
 -- (c) THE ANSWERS

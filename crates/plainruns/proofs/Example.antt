@@ -8,9 +8,9 @@ use lib.ListN.{replicate}
 use Rattle.words.specs.Lists.{filter, some, all, lastOr, firstNo, sum}
 use Rattle.regions.specs.declared.Region.{Region}
 use Rattle.regions.specs.declared.Kind.the-variants.{Ancestor}
-use Rattle.regions.specs.Positions.{wellBound, wellFormed, endsBefore, contains, nested, crosses, holds}
+use Rattle.regions.specs.Positions.{wellBound, wellFormed, endsBefore, contains, nested, crosses, misleveled, contradicts, holds}
 use Rattle.regions.specs.Sets.{emptySet, of, isAt, startsBefore, startsBehind, saved, deleted}
-use Rattle.regions.specs.Numbers.{DONE, REGION, ACCOUNT, HELD, CROSS, SHARE, ABSENT}
+use Rattle.regions.specs.Numbers.{DONE, REGION, ACCOUNT, HELD, CROSS, LEVEL, SHARE, ABSENT}
 use Rattle.regions.specs.Calls.{foreign, openSetNo, saveNo, deleteNo, pairsWith, pairsOf, joined}
 use Rattle.regions.specs.Desk.{later, isPast, markBehind, markFits, stateFits, deskFits, bufferFits, stateOpen, stateLimit, openSeatNo, stateHanded, stateTurned, poured, roundNo, partNo, part, closed}
 use Rattle.plainruns.specs.Calls.{State, Call, Shown, answer, next, Opened}
@@ -60,13 +60,14 @@ innerSaves =
     save inner 0 (region 95 96 4 5) ∷
     []
 
--- then a held start, two that cross, two not well formed, one above the share, one of another account; behind a delete there is room again
+-- then a held start, two that cross, one whose level contradicts (the account is full, but that is asked later), two not well formed, one above the share, one of another account; behind a delete there is room again
 refusals : map (λ (x : Shown). x .number)
     (answers
     (outerSaves ++
     save outer 0 (region 30 45 1 0) ∷
     save outer 0 (region 45 55 1 0) ∷
     save outer 0 (region 50 55 1 0) ∷
+    save outer 0 (region 5 95 1 0) ∷
     save outer 0 (region 7 7 1 0) ∷
     save outer 0 (region 65530 65540 1 0) ∷
     save outer 0 (region 91 95 1 0) ∷
@@ -75,8 +76,8 @@ refusals : map (λ (x : Shown). x .number)
     save outer 0 (region 91 95 1 0) ∷
     delete outer 0 30 ∷
     []) start)
-    ≡ DONE ∷ DONE ∷ DONE ∷ DONE ∷ HELD ∷ CROSS ∷ CROSS ∷ REGION ∷ REGION ∷ SHARE ∷ ACCOUNT ∷ DONE ∷ DONE ∷ ABSENT ∷ []
-unfolding answers answer next filter some firstNo wellBound wellFormed endsBefore contains nested crosses of isAt startsBefore startsBehind saved deleted foreign saveNo deleteNo
+    ≡ DONE ∷ DONE ∷ DONE ∷ DONE ∷ HELD ∷ CROSS ∷ CROSS ∷ LEVEL ∷ REGION ∷ REGION ∷ SHARE ∷ ACCOUNT ∷ DONE ∷ DONE ∷ ABSENT ∷ []
+unfolding answers answer next filter some firstNo wellBound wellFormed endsBefore contains nested crosses misleveled contradicts of isAt startsBefore startsBehind saved deleted foreign saveNo deleteNo
 refusals = refl
 
 -- eight pairs, and a seat at limit 3
@@ -89,11 +90,11 @@ turns : map (λ (x : Shown). x .counts) (answers (round outer inner ∷ round ou
     (0 ∷ 2 ∷ 0 ∷ 0 ∷ 0 ∷ 0 ∷ 0 ∷ 0 ∷ []) ∷
     (0 ∷ 0 ∷ 0 ∷ 0 ∷ 0 ∷ 0 ∷ 0 ∷ 0 ∷ []) ∷
     []
-unfolding answers answer next filter some all lastOr firstNo flatMap wellBound wellFormed endsBefore contains nested crosses holds of isAt startsBefore startsBehind saved foreign saveNo pairsWith pairsOf joined later isPast markBehind markFits stateFits deskFits bufferFits stateOpen openSeatNo stateHanded stateTurned poured roundNo
+unfolding answers answer next filter some all lastOr firstNo flatMap wellBound wellFormed endsBefore contains nested crosses misleveled contradicts holds of isAt startsBefore startsBehind saved foreign saveNo pairsWith pairsOf joined later isPast markBehind markFits stateFits deskFits bufferFits stateOpen openSeatNo stateHanded stateTurned poured roundNo
 turns = refl
 
 -- two pairs of its part behind the second round
 parts : map (λ (x : Shown). x .words) (answers (askPart 1 2 ∷ []) (after (seated ++ round outer inner ∷ round outer inner ∷ []) start))
     ≡ (20 ∷ 102 ∷ 35 ∷ 2 ∷ 30 ∷ 103 ∷ 35 ∷ 2 ∷ []) ∷ []
-unfolding answers answer next filter some all lastOr firstNo flatMap wellBound wellFormed endsBefore contains nested crosses holds of isAt startsBefore startsBehind saved foreign saveNo pairsWith pairsOf joined later isPast markBehind markFits stateFits deskFits bufferFits stateOpen stateLimit openSeatNo stateHanded stateTurned poured roundNo partNo part
+unfolding answers answer next filter some all lastOr firstNo flatMap wellBound wellFormed endsBefore contains nested crosses misleveled contradicts holds of isAt startsBefore startsBehind saved foreign saveNo pairsWith pairsOf joined later isPast markBehind markFits stateFits deskFits bufferFits stateOpen stateLimit openSeatNo stateHanded stateTurned poured roundNo partNo part
 parts = refl

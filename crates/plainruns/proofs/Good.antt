@@ -15,8 +15,8 @@ use Rattle.regions.specs.declared.Region.{Region}
 use Rattle.regions.specs.declared.Seat.{Seat}
 use Rattle.regions.specs.Positions.{account, wellBound, wellFormed}
 use Rattle.regions.specs.Limits.{mostARound}
-use Rattle.regions.specs.Sets.{Set, emptySet, heldBy, shareOf, heldAt, crossed, saved, deleted}
-use Rattle.regions.specs.Numbers.{REGION, ACCOUNT, HELD, CROSS, SHARE, ABSENT, SEAT, LIMIT, DESK, unless}
+use Rattle.regions.specs.Sets.{Set, emptySet, heldBy, shareOf, heldAt, crossed, contradicted, saved, deleted}
+use Rattle.regions.specs.Numbers.{REGION, ACCOUNT, HELD, CROSS, LEVEL, SHARE, ABSENT, SEAT, LIMIT, DESK, unless}
 use Rattle.regions.specs.Calls.{foreign, openSetNo, saveNo, deleteNo, pointNo, boundsNo, joinNo, ancestors, parent, descendants, children, joined}
 use Rattle.regions.specs.Desk.{seatFits, deskFits, bufferFits, isOpen, limitOf, closed, opened, seatAt, openSeatNo, closeSeatNo, handedWords, roundNo, partNo}
 use Rattle.words.proofs.Listed.{first-no}
@@ -201,6 +201,7 @@ fair so si (save w a r) s g =
     (foreign a (r .start), ACCOUNT) ∷
     (heldAt (r .start) (setOf w s), HELD) ∷
     (crossed r (setOf w s), CROSS) ∷
+    (contradicted r (setOf w s), LEVEL) ∷
     (leb (shareOf a (setOf w s)) (heldBy a (setOf w s)), SHARE) ∷
     [])
     (omega arith)

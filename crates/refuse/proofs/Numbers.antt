@@ -9,7 +9,7 @@ use lib.ListN.{getD}
 use native.Mathlib.Omega.{arith}
 use Rattle.words.specs.Lists.{firstNo}
 use Rattle.regions.specs.Positions.{wellFormed}
-use Rattle.regions.specs.Sets.{Set, heldAt, crossed, shareOf, heldBy}
+use Rattle.regions.specs.Sets.{Set, heldAt, crossed, contradicted, shareOf, heldBy}
 use Rattle.regions.specs.Calls.{foreign, saveNo, deleteNo}
 use Rattle.regions.specs.declared.Region.{Region}
 use Rattle.words.proofs.Says.{true-so}
@@ -39,13 +39,18 @@ module _ (S : Set) (a : ℕ) (r : Region) where
         unfolding saveNo firstNo
         save-cross h = rw (e, f, g, h)
 
-        pub save-share : crossed r S ≡ false → leb (shareOf a S) (heldBy a S) ≡ true → 6 ≡ saveNo S a r
-        unfolding saveNo firstNo
-        save-share h i = rw (e, f, g, h, i)
+        module _ (h : crossed r S ≡ false) where
+          pub save-level : contradicted r S ≡ true → 14 ≡ saveNo S a r
+          unfolding saveNo firstNo
+          save-level i = rw (e, f, g, h, i)
 
-        pub save-goes : crossed r S ≡ false → leb (shareOf a S) (heldBy a S) ≡ false → 0 ≡ saveNo S a r
-        unfolding saveNo firstNo
-        save-goes h i = rw (e, f, g, h, i)
+          pub save-share : contradicted r S ≡ false → leb (shareOf a S) (heldBy a S) ≡ true → 6 ≡ saveNo S a r
+          unfolding saveNo firstNo
+          save-share i j = rw (e, f, g, h, i, j)
+
+          pub save-goes : contradicted r S ≡ false → leb (shareOf a S) (heldBy a S) ≡ false → 0 ≡ saveNo S a r
+          unfolding saveNo firstNo
+          save-goes i j = rw (e, f, g, h, i, j)
 
 -- DELETE
 module _ (S : Set) (a s : ℕ) where

@@ -45,8 +45,12 @@ pub fn save_number(img: &[u32], account: u32, r: Region, held: [u32; regions::AC
     if is_held(img, r.start) {
         return regions::HELD;
     }
-    if clashes::crosses_held(img, r) {
+    let before = clashes::innermost_at(img, r.start);
+    if clashes::crosses_held(img, r, before) {
         return regions::CROSS;
+    }
+    if clashes::contradicts_held(img, r, before) {
+        return regions::LEVEL;
     }
     if is_full(img, account, held) {
         return regions::SHARE;

@@ -1,4 +1,4 @@
--- Document 01's P1 to P12, and C-13's limits: the definitions give each answer, by computing it.
+-- Document 01's P1 to P12, C-15's levels and C-13's limits: the definitions give each answer, by computing it.
 -- Assumes nothing.
 use Prim.Native.Nat.{ℕ}
 use mathlib.Core.Path.{_≡_, refl}
@@ -8,16 +8,21 @@ use lib.ListN.{replicate}
 use Rattle.words.specs.Lists.{filter, some, all, lastOr, firstNo}
 use Rattle.regions.specs.declared.Kind.the-variants.{Ancestor}
 use Rattle.regions.specs.declared.Mark.the-variants.{Fresh}
-use Rattle.regions.specs.Positions.{wellBound, wellFormed, endsBefore, contains, nested, crosses, holds, inside, isAbove}
+use Rattle.regions.specs.Positions.{wellBound, wellFormed, endsBefore, contains, nested, crosses, misleveled, contradicts, holds, inside, isAbove}
 use Rattle.regions.specs.Sets.{of, isAt, startsBehind}
-use Rattle.regions.specs.Numbers.{DONE, LIMIT}
+use Rattle.regions.specs.Numbers.{DONE, LIMIT, LEVEL}
 use Rattle.regions.specs.Calls.{foreign, saveNo, pointNo, innermost, boundsNo}
 use Rattle.regions.specs.Desk.{markFits, stateFits, seatFits, deskFits, stateOpen, closed, openAt, limitAsked, openSeatNo}
-use Rattle.regions.specs.Bench.{ask, questions, answers}
+use Rattle.regions.specs.Bench.{region, benchSet, ask, questions, answers}
 
 pub bench : map ask questions ≡ answers
-unfolding filter some lastOr firstNo wellBound wellFormed endsBefore contains nested crosses holds inside isAbove of isAt startsBehind foreign saveNo pointNo innermost boundsNo ask
+unfolding filter some lastOr firstNo wellBound wellFormed endsBefore contains nested crosses misleveled contradicts holds inside isAbove of isAt startsBehind foreign saveNo pointNo innermost boundsNo ask
 bench = refl
+
+-- levels: around all four none is left to take, since 1 is the least; within (30, 40), which has 3, a 3 contradicts and a 4 does not; and around (20, 50), which has 2, a 2 does
+pub levels-told : map (saveNo benchSet 0) (region 5 95 1 0 ∷ region 31 39 3 0 ∷ region 31 39 4 0 ∷ region 15 55 2 0 ∷ []) ≡ LEVEL ∷ LEVEL ∷ DONE ∷ LEVEL ∷ []
+unfolding filter some firstNo wellBound wellFormed endsBefore contains nested crosses misleveled contradicts of isAt foreign saveNo
+levels-told = refl
 
 -- what is stored for a limit asked: for 0 the house's, else what was asked
 pub limits-stored : map limitAsked (0 ∷ 1 ∷ 8 ∷ 9 ∷ 32 ∷ []) ≡ 8 ∷ 1 ∷ 8 ∷ 9 ∷ 32 ∷ []

@@ -13,7 +13,7 @@ use Rattle.regions.specs.declared.Region.{Region}
 use Rattle.regions.specs.declared.Seat.{Seat}
 use Rattle.regions.specs.Positions.{account, wellBound, wellFormed}
 use Rattle.regions.specs.Limits.{mostARound}
-use Rattle.regions.specs.Sets.{Set, heldAt, crossed, heldBy, shareOf}
+use Rattle.regions.specs.Sets.{Set, heldAt, crossed, contradicted, heldBy, shareOf}
 use Rattle.regions.specs.Calls.{foreign, openSetNo, saveNo, deleteNo, pointNo, boundsNo, joinNo}
 use Rattle.regions.specs.Desk.{deskFits, bufferFits, seatFits, seatAt, isOpen, limitOf, openDeskNo, openSeatNo, closeSeatNo, roundNo, partNo}
 use Rattle.regions.proofs.Means.{foreign-says}
@@ -46,6 +46,7 @@ pub record MaySave (S : Set) (a : ℕ) (r : Region) : Type 0 where
   pub own : Own a (r .start)
   pub free : heldAt (r .start) S ≡ false
   pub clear : crossed r S ≡ false
+  pub level : contradicted r S ≡ false
   pub room : heldBy a S < shareOf a S
 
 pub save-done : (S : Set) (a : ℕ) (r : Region) → saveNo S a r ≡ 0 → MaySave S a r
@@ -55,12 +56,13 @@ save-done S a r e =
     let v = first-0 (foreign a (r .start)) 2 _ (u .1) in
     let w = first-0 (heldAt (r .start) S) 3 _ (v .1) in
     let x = first-0 (crossed r S) 4 _ (w .1) in
-    let y = first-0 (leb (shareOf a S) (heldBy a S)) 5 _ (x .1) in
-    record { formed = not-false _ (u .0); own = own-of a (r .start) (v .0); free = w .0; clear = x .0; room = nle-of _ _ (y .0) }
+    let y = first-0 (contradicted r S) 13 _ (x .1) in
+    let z = first-0 (leb (shareOf a S) (heldBy a S)) 5 _ (y .1) in
+    record { formed = not-false _ (u .0); own = own-of a (r .start) (v .0); free = w .0; clear = x .0; level = y .0; room = nle-of _ _ (z .0) }
 
 pub done-save : (S : Set) (a : ℕ) (r : Region) → MaySave S a r → saveNo S a r ≡ 0
 unfolding saveNo firstNo
-done-save S a r m = rw (m .formed, of-own a (r .start) (m .own), m .free, m .clear, le-no (shareOf a S) (heldBy a S) (m .room))
+done-save S a r m = rw (m .formed, of-own a (r .start) (m .own), m .free, m .clear, m .level, le-no (shareOf a S) (heldBy a S) (m .room))
 
 pub record MayDelete (S : Set) (a s : ℕ) : Type 0 where
   pub own : Own a s

@@ -2,6 +2,7 @@
 -- Assumes nothing.
 use Prim.Native.Nat.{ℕ, _<_}
 use mathlib.Core.Path.{_≡_, refl, sym, ap, ap₂, _∙_, subst}
+use mathlib.Core.Logic.{_⊎_, inl, inr}
 use mathlib.Core.Bool.{Bool, true, false, not, cond}
 use mathlib.Core.List.{List, [], _∷_, _++_, flatMap, append-nil}
 use lib.Dec.{leb}
@@ -14,12 +15,12 @@ use Rattle.words.proofs.Listed.{all-mono, all-every, all-let, filter-append, fi
 use Rattle.words.proofs.Says.{true-so, so-true, so-false}
 use Rattle.regions.specs.declared.Region.{Region}
 use Rattle.regions.specs.declared.Kind.{Kind}
-use Rattle.regions.specs.Positions.{document, account, wellBound, wellFormed, crosses, holds, inside, isAbove, isBelow}
-use Rattle.regions.specs.Sets.{Set, of, only, heldBy, shareOf, isAt, heldAt, crossed, startsBefore, startsBehind, saved, isNotAt, deleted}
-use Rattle.regions.specs.Numbers.{REGION, ACCOUNT, HELD, CROSS, SHARE, ABSENT}
+use Rattle.regions.specs.Positions.{document, account, wellBound, wellFormed, crosses, contradicts, holds, inside, isAbove, isBelow}
+use Rattle.regions.specs.Sets.{Set, of, only, heldBy, shareOf, isAt, heldAt, crossed, contradicted, startsBefore, startsBehind, saved, isNotAt, deleted}
+use Rattle.regions.specs.Numbers.{REGION, ACCOUNT, HELD, CROSS, LEVEL, SHARE, ABSENT}
 use Rattle.regions.specs.Sound.{Wf}
 use Rattle.regions.specs.Calls.{foreign, saveNo, deleteNo, ancestors, innermost, parent, descendants, children, pairsOf, joined}
-use Rattle.regions.proofs.Means.{Formed, formed-says, bound-says, foreign-says, crosses-says, holds-says, inside-says, of-says, at-says, before-says, behind-says}
+use Rattle.regions.proofs.Means.{Formed, formed-says, bound-says, foreign-says, crosses-says, Misleveled, contradicts-says, holds-says, inside-says, of-says, at-says, before-says, behind-says}
 
 -- POSITIONS AND REGIONS OF ONE ACCOUNT
 pub one-account : (p q : ℕ) → document p ≡ document q → account p ≡ account q
@@ -32,13 +33,20 @@ wf r h = true-so (formed-says r) h
 pub own : (a p : ℕ) → foreign a p ≡ false → account p ≡ a
 own a p h = true-so (foreign-says a p) (ap not h) .1
 
--- what crosses a well-formed region, what holds a position, what starts inside well-formed bounds, what starts there
+-- what crosses a well-formed region or contradicts its level, what holds a position, what starts inside well-formed bounds, what starts there
 pub crosses-account : (r x : Region) → Wf r → Wf x → crosses r x ≡ true → of (account (r .start)) x ≡ true
 crosses-account r x hr hx h =
     let f = wf r hr in
     let g = wf x hx in
     let c = true-so (crosses-says r x) h in
     so-true (of-says (account (r .start)) x) (one-account (x .start) (r .start) (omega arith))
+
+pub contradicts-account : (r x : Region) → Wf r → Wf x → contradicts r x ≡ true → of (account (r .start)) x ≡ true
+contradicts-account r x hr hx h = so-true (of-says (account (r .start)) x) (one-account (x .start) (r .start) (one (wf r hr) (wf x hx) (true-so (contradicts-says r x) h)))
+  where
+    one : Formed r → Formed x → Misleveled r x ⊎ Misleveled x r → document (x .start) ≡ document (r .start)
+    one f g (inl c) = omega arith
+    one f g (inr c) = omega arith
 
 pub holds-account : (p : ℕ) (x : Region) → Wf x → holds p x ≡ true → of (account p) x ≡ true
 holds-account p x hx h =
@@ -62,6 +70,10 @@ held-local S s = ap some (filter-within (isAt s) (of (account s)) (S .regions) (
 pub crossed-local : (S : Set) (r : Region) → Wf r → All Wf (S .regions) → crossed r S ≡ crossed r (only (account (r .start)) S)
 crossed-local S r hr hs = ap some (filter-within (crosses r) (of (account (r .start))) (S .regions) (all-mono (λ x hx. crosses-account r x hr hx) (S .regions) hs))
 
+pub contradicted-local : (S : Set) (r : Region) → Wf r → All Wf (S .regions) → contradicted r S ≡ contradicted r (only (account (r .start)) S)
+contradicted-local S r hr hs =
+    ap some (filter-within (contradicts r) (of (account (r .start))) (S .regions) (all-mono (λ x hx. contradicts-account r x hr hx) (S .regions) hs))
+
 pub count-local : (S : Set) (a : ℕ) → heldBy a S ≡ heldBy a (only a S)
 count-local S a = ap length (sym (filter-twice (of a) (S .regions)))
 
@@ -72,8 +84,9 @@ save-local S a r hs =
     let e = own a (r .start) f in
     let h : heldAt (r .start) S ≡ heldAt (r .start) (only a S) = subst (λ (b : ℕ). heldAt (r .start) S ≡ heldAt (r .start) (only b S)) e (held-local S (r .start)) in
     let c : crossed r S ≡ crossed r (only a S) = subst (λ (b : ℕ). crossed r S ≡ crossed r (only b S)) e (crossed-local S r (not-false _ n) hs) in
+    let d : contradicted r S ≡ contradicted r (only a S) = subst (λ (b : ℕ). contradicted r S ≡ contradicted r (only b S)) e (contradicted-local S r (not-false _ n) hs) in
     let k = count-local S a in
-    λ i. firstNo ((h i, HELD) ∷ (c i, CROSS) ∷ (leb (shareOf a S) (k i), SHARE) ∷ [])))
+    λ i. firstNo ((h i, HELD) ∷ (c i, CROSS) ∷ (d i, LEVEL) ∷ (leb (shareOf a S) (k i), SHARE) ∷ [])))
 
 pub delete-local : (S : Set) (a s : ℕ) → deleteNo S a s ≡ deleteNo (only a S) a s
 unfolding deleteNo

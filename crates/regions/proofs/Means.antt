@@ -1,7 +1,7 @@
 -- What each test on positions and regions says, so that `omega` can go on from it.
 -- Assumes nothing.
 use Prim.Native.Nat.{ℕ, suc, _+_, _<_, _≤_}
-use mathlib.Core.Path.{_≡_, refl}
+use mathlib.Core.Path.{_≡_, refl, ap}
 use mathlib.Core.Logic.{_⊎_, inl, inr}
 use mathlib.Core.Bool.{not}
 use mathlib.Core.List.{List}
@@ -10,7 +10,7 @@ use native.Mathlib.Decide.{decLe, ℕ-discrete}
 use Rattle.words.specs.Lists.{filter}
 use Rattle.words.proofs.Says.{Says, says-iff, says-same, and-says, eq-says, lt-says, le-says, or-says, not-says}
 use Rattle.regions.specs.declared.Region.{Region}
-use Rattle.regions.specs.Positions.{document, account, wellBound, wellFormed, endsBefore, contains, nested, crosses, holds, inside, isAbove, isBelow}
+use Rattle.regions.specs.Positions.{document, account, wellBound, wellFormed, endsBefore, contains, nested, crosses, misleveled, contradicts, leveled, holds, inside, isAbove, isBelow}
 use Rattle.regions.specs.Sets.{of, isAt, startsBefore, startsBehind, startsFrom}
 use Rattle.regions.specs.Calls.{foreign}
 
@@ -164,3 +164,38 @@ nested-in-turn x y l f = says-iff (nested-says x y) to from
       | yes h ↦ inr (inl (l, g h))
       | no h ↦ inl (inl (omega arith))
     ]
+
+-- LEVELS of two regions, either way round
+abbrev pub Misleveled : Region → Region → Type 0
+Misleveled x y = ((x .start < y .start) × (y .end < x .end)) × (y .level ≤ x .level)
+
+misleveled-says : (x y : Region) → Says (misleveled x y) (Misleveled x y)
+unfolding misleveled
+misleveled-says x y = and-says (contains-says x y) (le-says (y .level) (x .level))
+
+pub contradicts-says : (x y : Region) → Says (contradicts x y) (Misleveled x y ⊎ Misleveled y x)
+unfolding contradicts
+contradicts-says x y = or-says (misleveled-says x y) (misleveled-says y x)
+
+pub contradicts-comm : (x y : Region) → contradicts x y ≡ contradicts y x
+contradicts-comm x y = says-same (contradicts-says x y) (says-iff (contradicts-says y x) (turn y x) (turn x y))
+  where
+    turn : (u v : Region) → Misleveled u v ⊎ Misleveled v u → Misleveled v u ⊎ Misleveled u v
+    turn u v (inl h) = inr h
+    turn u v (inr h) = inl h
+
+pub leveled-comm : (x y : Region) → leveled x y ≡ leveled y x
+unfolding leveled
+leveled-comm x y = ap not (contradicts-comm x y)
+
+-- of two regions in ascending start: where the later one lies in the earlier one, its level is above
+pub leveled-in-turn : (x y : Region) → x .start < y .start → Says (leveled x y) (y .end < x .end → x .level < y .level)
+unfolding leveled
+leveled-in-turn x y l = says-iff (not-says (contradicts-says x y)) to from
+  where
+    to : (Misleveled x y ⊎ Misleveled y x → ⊥) → y .end < x .end → x .level < y .level
+    to n h = let k : (y .level ≤ x .level → ⊥) = (λ m. n (inl ((l, h), m))) in omega arith
+
+    from : (y .end < x .end → x .level < y .level) → Misleveled x y ⊎ Misleveled y x → ⊥
+    from f (inl h) = omega (arith, f (h .0 .1))
+    from f (inr h) = omega arith

@@ -2,7 +2,7 @@
 -- Assumes nothing.
 use Prim.Native.Nat.{ℕ, suc, _+_, _<_, _≤_}
 use mathlib.Core.Path.{_≡_, refl, sym, ap, ap₂, _∙_, subst}
-use mathlib.Core.Bool.{true, false, not, cond, false≢true}
+use mathlib.Core.Bool.{Bool, true, false, not, cond, false≢true}
 use mathlib.Core.List.{List, [], _∷_, _++_}
 use lib.Dec.{T}
 use lib.ListN.{length, getD, length-append}
@@ -13,16 +13,23 @@ use Rattle.words.proofs.Tests.{T-of, of-T, not-false, not-true, by-test}
 use Rattle.words.proofs.Listed.{all-mono, all-every, all-two, all-append, all-kept, all-let, pairs-mono, pairs-kept, pairs-right, pairs-across, pairs-put, filter-append, filter-yes, filter-no, filter-all, filter-none, filter-same, filter-comm, none-of, some-none, begins, rests, while-join, length-parts}
 use Rattle.words.proofs.Says.{Says, says-same, says-iff, pairs-say, true-so, so-true, false-so, so-false, not-says}
 use Rattle.regions.specs.declared.Region.{Region}
-use Rattle.regions.specs.Positions.{account, nested, crosses}
-use Rattle.regions.specs.Sets.{Set, emptySet, of, heldBy, shareOf, isAt, heldAt, crossed, startsBefore, startsBehind, startsFrom, saved, isNotAt, deleted}
+use Rattle.regions.specs.Positions.{account, nested, crosses, contradicts, leveled}
+use Rattle.regions.specs.Sets.{Set, emptySet, of, heldBy, shareOf, isAt, heldAt, crossed, contradicted, startsBefore, startsBehind, startsFrom, saved, isNotAt, deleted}
 use Rattle.regions.specs.Calls.{saveNo, deleteNo}
-use Rattle.regions.proofs.Means.{at-says, before-says, behind-says, from-says, of-says, nested-comm}
-use Rattle.regions.specs.Sound.{Wf, Rising, Nesting, Sound}
+use Rattle.regions.proofs.Means.{at-says, before-says, behind-says, from-says, of-says, nested-comm, leveled-comm}
+use Rattle.regions.specs.Sound.{Wf, Rising, Nesting, Leveling, Sound}
 use Rattle.regions.proofs.Local.{held-local, saved-of, saved-other, deleted-other}
 use Rattle.regions.proofs.Done.{MaySave, MayDelete, save-done, delete-done}
 
+-- a test of every two regions
+related-says : (q : Region → Region → Bool) (rs : List Region) → Says (allPairs q rs) (Pairs (λ x y. q x y ≡ true) rs)
+related-says q rs = pairs-say (λ x y. record { yes-so = of-T (q x y); so-yes = λ e. T-of e }) rs
+
 pub nesting-says : (rs : List Region) → Says (allPairs nested rs) (Nesting rs)
-nesting-says rs = pairs-say (λ x y. record { yes-so = of-T (nested x y); so-yes = λ e. T-of e }) rs
+nesting-says rs = related-says nested rs
+
+pub leveling-says : (rs : List Region) → Says (allPairs leveled rs) (Leveling rs)
+leveling-says rs = related-says leveled rs
 
 -- THE TWO SIDES OF A START
 starts-before : (s : ℕ) (rs : List Region) → All (λ x. x .start < s) (filter (startsBefore s) rs)
@@ -109,16 +116,21 @@ nests-with : (S : Set) (r : Region) → crossed r S ≡ false → All (λ x. nes
 unfolding crosses
 nests-with S r c = all-mono {Q = λ x. nested r x ≡ true} (λ x h. not-false (nested r x) h) (S .regions) (none-of (crosses r) (S .regions) (some-none _ c))
 
-pub saved-nests : (S : Set) (r : Region) → Rising (S .regions) → Nesting (S .regions) → crossed r S ≡ false → Nesting (saved r S .regions)
-saved-nests S r h k c =
-    let n = nests-with S r c in
-    put-in (λ x y. nested x y ≡ true) S r h k
-    (all-kept (λ x. nested x r ≡ true) (startsBefore (r .start)) (S .regions) (all-mono {Q = λ x. nested x r ≡ true} (λ x e. nested-comm x r ∙ e) (S .regions) n))
-    (all-kept (λ x. nested r x ≡ true) (startsBehind (r .start)) (S .regions) n)
+levels-with : (S : Set) (r : Region) → contradicted r S ≡ false → All (λ x. leveled r x ≡ true) (S .regions)
+unfolding leveled
+levels-with S r c = all-mono {Q = λ x. leveled r x ≡ true} (λ x h. ap not h) (S .regions) (none-of (contradicts r) (S .regions) (some-none _ c))
 
-pub deleted-nests : (S : Set) (s : ℕ) → Nesting (S .regions) → Nesting (deleted s S .regions)
-unfolding deleted
-deleted-nests S s k = pairs-kept (λ x y. nested x y ≡ true) (isNotAt s) (S .regions) k
+-- an even-handed test of every two regions: that they nest rightly, and that their levels say the same
+module _ (q : Region → Region → Bool) (even : (x y : Region) → q x y ≡ q y x) (S : Set) (k : Pairs (λ x y. q x y ≡ true) (S .regions)) where
+  saved-related : (r : Region) → Rising (S .regions) → All (λ x. q r x ≡ true) (S .regions) → Pairs (λ x y. q x y ≡ true) (saved r S .regions)
+  saved-related r h n =
+      put-in (λ x y. q x y ≡ true) S r h k
+      (all-kept (λ x. q x r ≡ true) (startsBefore (r .start)) (S .regions) (all-mono {Q = λ x. q x r ≡ true} (λ x e. even x r ∙ e) (S .regions) n))
+      (all-kept (λ x. q r x ≡ true) (startsBehind (r .start)) (S .regions) n)
+
+  deleted-related : (s : ℕ) → Pairs (λ x y. q x y ≡ true) (deleted s S .regions)
+  unfolding deleted
+  deleted-related s = pairs-kept (λ x y. q x y ≡ true) (isNotAt s) (S .regions) k
 
 -- any property of each region
 pub saved-all : (P : Region → Type 0) (S : Set) (r : Region) → P r → All P (S .regions) → All P (saved r S .regions)
@@ -179,7 +191,7 @@ others-deleted S s b n = ap (λ (Z : Set). length (Z .regions)) (deleted-other S
 -- WHAT EVERY SET HAS
 pub empty-sound : (shares : List ℕ) → sum shares ≤ 500 → Sound (emptySet shares)
 unfolding filter
-empty-sound shares l = record { formed = tt; rising = tt; nesting = tt; within = λ a. omega arith; shared = l }
+empty-sound shares l = record { formed = tt; rising = tt; nesting = tt; leveling = tt; within = λ a. omega arith; shared = l }
 
 pub saved-sound : (S : Set) (a : ℕ) (r : Region) → saveNo S a r ≡ 0 → Sound S → Sound (saved r S)
 unfolding saved
@@ -188,7 +200,8 @@ saved-sound S a r e g =
     record {
       formed = saved-all Wf S r (m .formed) (g .formed);
       rising = saved-rises S r (g .rising);
-      nesting = saved-nests S r (g .rising) (g .nesting) (m .clear);
+      nesting = saved-related nested nested-comm S (g .nesting) r (g .rising) (nests-with S r (m .clear));
+      leveling = saved-related leveled leveled-comm S (g .leveling) r (g .rising) (levels-with S r (m .level));
       within = within m;
       shared = g .shared;
     }
@@ -208,7 +221,8 @@ deleted-sound S a s e g =
     record {
       formed = deleted-all Wf S s (g .formed);
       rising = deleted-rises S s (g .rising);
-      nesting = deleted-nests S s (g .nesting);
+      nesting = deleted-related nested nested-comm S (g .nesting) s;
+      leveling = deleted-related leveled leveled-comm S (g .leveling) s;
       within = within (delete-done S a s e);
       shared = g .shared;
     }

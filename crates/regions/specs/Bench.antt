@@ -7,7 +7,7 @@ use Rattle.regions.specs.Numbers.{DONE, HELD, CROSS, unless}
 use Rattle.regions.specs.Calls.{pointNo, ancestors, parent, boundsNo, descendants, saveNo}
 use Rattle.regions.specs.declared.Region.{Region}
 
-abbrev region : ℕ → ℕ → ℕ → ℕ → Region
+abbrev pub region : ℕ → ℕ → ℕ → ℕ → Region
 region s e l n = record { start = s; end = e; level = l; reference = n }
 
 -- the listing's outer set: ten regions allowed to account 0, none to the other fifteen

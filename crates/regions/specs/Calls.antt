@@ -9,8 +9,8 @@ use lib.Seq.{sets}
 use Rattle.words.specs.Lists.{filter, some, lastOr, firstNo, sum}
 use Rattle.regions.specs.Limits.{lastAccount, mostRegions}
 use Rattle.regions.specs.Positions.{account, wellBound, wellFormed, holds, inside, isAbove, isBelow}
-use Rattle.regions.specs.Sets.{Set, of, heldBy, shareOf, heldAt, crossed, startsBehind}
-use Rattle.regions.specs.Numbers.{REGION, ACCOUNT, HELD, CROSS, SHARE, ABSENT, SHARES}
+use Rattle.regions.specs.Sets.{Set, of, heldBy, shareOf, heldAt, crossed, contradicted, startsBehind}
+use Rattle.regions.specs.Numbers.{REGION, ACCOUNT, HELD, CROSS, LEVEL, SHARE, ABSENT, SHARES}
 use Rattle.regions.specs.declared.Region.{Region}
 use Rattle.regions.specs.declared.Kind.{Kind}
 use Rattle.regions.specs.declared.Kind.the-variants.{Ancestor, Parent}
@@ -49,6 +49,7 @@ saveNo S a r =
     (foreign a (r .start), ACCOUNT) ∷
     (heldAt (r .start) S, HELD) ∷
     (crossed r S, CROSS) ∷
+    (contradicted r S, LEVEL) ∷
     (leb (shareOf a S) (heldBy a S), SHARE) ∷
     [])
 

@@ -20,6 +20,10 @@ accountPositions = 268435456
 abbrev pub lastLevel : ℕ
 lastLevel = 255
 
+-- the regions around one position, at most: their levels rise inwards
+abbrev pub mostAround : ℕ
+mostAround = lastLevel
+
 -- the regions of a set, at most: also what its shares may come to together
 abbrev pub mostRegions : ℕ
 mostRegions = 500

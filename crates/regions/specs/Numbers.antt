@@ -43,6 +43,10 @@ DESK = 11
 abbrev pub FORM : ℕ
 FORM = 12
 
+-- (change request C-15)
+abbrev pub LEVEL : ℕ
+LEVEL = 14
+
 -- what is so where the number is 0, and what where the call is refused
 abbrev pub unless : {X : Type 0} → ℕ → X → X → X
 unless number done refused = cond (eqb number DONE) done refused

@@ -35,6 +35,17 @@ nested x y = (endsBefore x y || endsBefore y x) || (contains x y || contains y x
 unfoldable pub crosses : Region → Region → Bool
 crosses x y = not (nested x y)
 
+-- LEVELS (change request C-15): what contains another has the smaller level. One lies in the other though its level is not above the other's
+unfoldable pub misleveled : Region → Region → Bool
+misleveled x y = contains x y && leb (y .level) (x .level)
+
+-- the levels of two regions contradict how they nest, either way round; or they do not
+unfoldable pub contradicts : Region → Region → Bool
+contradicts x y = misleveled x y || misleveled y x
+
+unfoldable pub leveled : Region → Region → Bool
+leveled x y = not (contradicts x y)
+
 -- a key inside a region, or at either end of it, stabs it ("A valid image", rule 3)
 unfoldable pub stabs : ℕ → Region → Bool
 stabs k r = leb (r .start) k && leb k (r .end)

@@ -6,7 +6,7 @@ use mathlib.Core.List.{List, [], _∷_, _++_}
 use lib.Dec.{leb, ltb, eqb}
 use lib.ListN.{length, getD}
 use Rattle.words.specs.Lists.{filter, some}
-use Rattle.regions.specs.Positions.{account, crosses}
+use Rattle.regions.specs.Positions.{account, crosses, contradicts}
 use Rattle.regions.specs.declared.Region.{Region}
 
 pub record Set : Type 0 where
@@ -31,7 +31,7 @@ heldBy a S = length (filter (of a) (S .regions))
 abbrev pub shareOf : ℕ → Set → ℕ
 shareOf a S = getD (S .shares) a 0
 
--- some region of the set starts there; some region of the set is crossed
+-- some region of the set starts there; some region of the set is crossed; the level of some region of the set is contradicted
 unfoldable pub isAt : ℕ → Region → Bool
 isAt s r = eqb (r .start) s
 
@@ -40,6 +40,9 @@ heldAt s S = some (filter (isAt s) (S .regions))
 
 abbrev pub crossed : Region → Set → Bool
 crossed r S = some (filter (crosses r) (S .regions))
+
+abbrev pub contradicted : Region → Set → Bool
+contradicted r S = some (filter (contradicts r) (S .regions))
 
 -- SAVE: the region stands behind those that start before it and before those that start behind it
 unfoldable pub startsBefore : ℕ → Region → Bool

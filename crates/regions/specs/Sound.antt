@@ -6,13 +6,13 @@ use mathlib.Core.Bool.{true}
 use mathlib.Core.List.{List}
 use Rattle.words.specs.Lists.{All, Pairs, sum}
 use Rattle.regions.specs.Limits.{mostRegions}
-use Rattle.regions.specs.Positions.{wellFormed, nested}
+use Rattle.regions.specs.Positions.{wellFormed, nested, leveled}
 use Rattle.regions.specs.Sets.{Set, heldBy, shareOf}
 use Rattle.regions.specs.Calls.{Pair}
 use Rattle.regions.specs.Desk.{later}
 use Rattle.regions.specs.declared.Region.{Region}
 
--- a region is well formed; starts ascend strictly; every two regions nest rightly
+-- a region is well formed; starts ascend strictly; every two regions nest rightly; their levels say the same
 abbrev pub Wf : Region → Type 0
 Wf r = wellFormed r ≡ true
 
@@ -22,11 +22,15 @@ Rising rs = Pairs (λ x y. x .start < y .start) rs
 abbrev pub Nesting : List Region → Type 0
 Nesting rs = Pairs (λ x y. nested x y ≡ true) rs
 
--- a set: all three, no account above its share, and shares that sum to at most 500
+abbrev pub Leveling : List Region → Type 0
+Leveling rs = Pairs (λ x y. leveled x y ≡ true) rs
+
+-- a set: all four, no account above its share, and shares that sum to at most 500
 pub record Sound (S : Set) : Type 0 where
   pub formed : All Wf (S .regions)
   pub rising : Rising (S .regions)
   pub nesting : Nesting (S .regions)
+  pub leveling : Leveling (S .regions)
   pub within : (a : ℕ) → heldBy a S ≤ shareOf a S
   pub shared : sum (S .shares) ≤ mostRegions
 

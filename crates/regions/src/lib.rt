@@ -34,6 +34,8 @@ pub const DESK: u32 = 11;
 
 pub const FORM: u32 = 12;
 
+pub const LEVEL: u32 = 14;
+
 // THE NUMBERS OF THE HOUSE, as specs/Limits has them. Accounts:
 pub const ACCOUNT_COUNT: usize = 16;
 
@@ -45,6 +47,9 @@ pub const DOCUMENT_POSITIONS: u32 = 65536;
 pub const ACCOUNT_POSITIONS: u32 = 268435456;
 
 pub const LAST_LEVEL: u32 = 255;
+
+// the regions around one position at most,
+pub const MOST_AROUND: usize = 255;
 
 // the regions of a set at most, which its shares may come to together,
 pub const MOST_REGIONS: u32 = 500;

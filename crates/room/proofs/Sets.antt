@@ -13,13 +13,13 @@ use Rattle.words.proofs.Tests.{of-T, T-of, and-left, and-right, and-both}
 use Rattle.words.proofs.Listed.{all-mono, filter-none}
 use Rattle.words.proofs.Says.{Says, all-says, pairs-say, lt-says, so-false}
 use Rattle.regions.specs.declared.Region.{Region}
-use Rattle.regions.specs.Positions.{account, wellFormed, nested}
+use Rattle.regions.specs.Positions.{account, wellFormed, nested, leveled}
 use Rattle.regions.specs.Sets.{Set, of, heldBy, shareOf, startsBefore, startsBehind, saved, deleted}
 use Rattle.regions.specs.Calls.{saveNo, deleteNo}
 use Rattle.regions.proofs.Means.{of-says}
 use Rattle.regions.specs.Sound.{Wf, Rising, Sound}
 use Rattle.regions.proofs.Done.{save-done}
-use Rattle.regions.proofs.Rising.{nesting-says, saved-sound, deleted-sound, few, saved-all, deleted-all, saved-rises, deleted-rises, free-sides}
+use Rattle.regions.proofs.Rising.{nesting-says, leveling-says, saved-sound, deleted-sound, few, saved-all, deleted-all, saved-rises, deleted-rises, free-sides}
 use Rattle.xrtree.specs.Tree.{regions}
 use Rattle.xrtree.specs.Rules.{startsFirst, sharesKept, rule6}
 use Rattle.pages.specs.Layout.{rootOf, sharesOf}
@@ -58,19 +58,22 @@ unfolding rule6
 six-sound S t u h =
     let a = and-right (all wellFormed (S .regions)) _ t in
     let b = and-right (allPairs nested (S .regions)) _ a in
+    let c = and-right (allPairs leveled (S .regions)) _ b in
     record {
       formed = formed-says (S .regions) .yes-so (and-left (all wellFormed (S .regions)) _ t);
       rising = u;
       nesting = nesting-says (S .regions) .yes-so (and-left (allPairs nested (S .regions)) _ a);
-      within = λ n. elim (decLt n 16) [ yes l ↦ kept-share 16 S (and-left (sharesKept 16 S) _ b) n l | no l ↦ omega (arith, none-of-it n S (omega arith) h) ];
-      shared = leb→le (sum (S .shares)) 500 (and-right (sharesKept 16 S) _ b);
+      leveling = leveling-says (S .regions) .yes-so (and-left (allPairs leveled (S .regions)) _ b);
+      within = λ n. elim (decLt n 16) [ yes l ↦ kept-share 16 S (and-left (sharesKept 16 S) _ c) n l | no l ↦ omega (arith, none-of-it n S (omega arith) h) ];
+      shared = leb→le (sum (S .shares)) 500 (and-right (sharesKept 16 S) _ c);
     }
 
 pub sound-six : (S : Set) → Sound S → T (rule6 S)
 unfolding rule6
 sound-six S g =
     and-both (all wellFormed (S .regions)) _ (formed-says (S .regions) .so-yes (g .formed))
-    (and-both (allPairs nested (S .regions)) _ (nesting-says (S .regions) .so-yes (g .nesting)) (and-both (sharesKept 16 S) _ (share-kept 16 S (g .within)) (le→leb (sum (S .shares)) 500 (g .shared))))
+    (and-both (allPairs nested (S .regions)) _ (nesting-says (S .regions) .so-yes (g .nesting))
+    (and-both (allPairs leveled (S .regions)) _ (leveling-says (S .regions) .so-yes (g .leveling)) (and-both (sharesKept 16 S) _ (share-kept 16 S (g .within)) (le→leb (sum (S .shares)) 500 (g .shared)))))
 
 -- SAVE and DELETE keep it
 pub saved-six : (S : Set) (a : ℕ) (r : Region) → T (rule6 S) → Rising (S .regions) → Accounted (S .regions) → saveNo S a r ≡ 0 → T (rule6 (saved r S))
@@ -145,7 +148,9 @@ unfolding setOf rule6
 valid-set w small v =
     let f = valid-facts w v in
     record {
-      six = and-both (all wellFormed (setOf w .regions)) _ (f .formed) (and-both (allPairs nested (setOf w .regions)) _ (f .nest) (and-both (sharesKept 16 (setOf w)) _ (f .kept) (f .sums)));
+      six = and-both (all wellFormed (setOf w .regions)) _ (f .formed)
+          (and-both (allPairs nested (setOf w .regions)) _ (f .nest)
+          (and-both (allPairs leveled (setOf w .regions)) _ (f .level) (and-both (sharesKept 16 (setOf w)) _ (f .kept) (f .sums))));
       rising = rising-says (setOf w .regions) .yes-so (f .ascend);
       accounted = all-mono {Q = λ r. account (r .start) ≤ 15} (λ r l. low (r .start) l) (setOf w .regions) (small-starts w small (depthOf w) (rootOf w));
       sixteen = shares-sixteen w (f .long);

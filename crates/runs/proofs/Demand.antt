@@ -12,7 +12,7 @@ use Rattle.regions.specs.declared.Region.{Region}
 use Rattle.regions.specs.declared.Kind.{Kind}
 use Rattle.regions.specs.declared.Open.{Open}
 use Rattle.regions.specs.Positions.{account, wellFormed}
-use Rattle.regions.specs.Sets.{Set, isAt, only, heldAt, crossed, heldBy}
+use Rattle.regions.specs.Sets.{Set, isAt, only, heldAt, crossed, contradicted, heldBy}
 use Rattle.regions.specs.Calls.{Pair, joined}
 use Rattle.regions.specs.Desk.{limitAsked}
 use Rattle.regions.specs.Sound.{Sound, Ascending}
@@ -70,6 +70,7 @@ demand-fair so si {l₀ = l₀} c r run st = never so si c (begins so si l₀ r 
 pub demand-a : (so si : List ℕ) {l₀ l m : Lent} {ds : List Done} {x : Answer} → Ready so si l₀ → Runs l₀ ds l
     → (w : Which) (a : ℕ) (q : Region) → Does l (save w a q) x m
     → wellFormed q ≡ true → q .start < 4294967296 → account (q .start) ≡ a → heldAt (q .start) (setIn (imageOf w l)) ≡ false → crossed q (only a (setIn (imageOf w l))) ≡ false
+    → contradicted q (only a (setIn (imageOf w l))) ≡ false
     → (x .shown .number ≡ 0) ↔ (heldBy a (setIn (imageOf w l)) < shareGiven so si w a)
 demand-a so si {l₀ = l₀} r run outer a q st = theorem-a so si (begins so si l₀ r .0) (meant so si r run .1) outer a q (last-step so si r run st)
 demand-a so si {l₀ = l₀} r run inner a q st = theorem-a so si (begins so si l₀ r .0) (meant so si r run .1) inner a q (last-step so si r run st)

@@ -1,23 +1,25 @@
--- The stack on plain lists: regions that hold one place end the sooner the later they start, so popping from the top is a filter; those that hold the next place
--- are those of them that end behind it, and those that start on the way, entry by entry.
+-- The stack on plain lists: regions that hold one place lie one in the other, so they are few, and end the sooner the later they start: popping from the top is a
+-- filter. Those that hold the next place are those of them that end behind it, and those that start on the way, entry by entry.
 -- Assumes nothing.
 use Prim.Native.Nat.{ℕ, suc, _≤_, _<_}
 use mathlib.Core.Path.{_≡_, sym, ap, ap₂, _∙_, subst}
-use mathlib.Core.Bool.{true, false, _&&_}
+use mathlib.Core.Bool.{Bool, true, false, _&&_}
 use mathlib.Core.List.{List, [], _∷_, _++_, append-nil}
 use lib.ListN.{length, length-append}
 use native.Mathlib.Omega.{arith}
 use native.Mathlib.Decide.{decLt}
 use Rattle.words.specs.Lists.{filter, All}
-use Rattle.words.proofs.Listed.{all-mono, all-two, none-of, all-every, all-append, all-let, pairs-kept, pairs-filter, pairs-across, filter-yes, filter-no, filter-append, filter-all, filter-none, filter-same, filter-filter, filter-within, pairs-two}
+use Rattle.words.proofs.Listed.{all-mono, all-two, none-of, all-every, all-append, all-right, all-kept, all-let, pairs-mono, pairs-kept, pairs-across, filter-yes, filter-no, filter-append, filter-all, filter-none, filter-same, filter-filter, filter-comm, filter-within}
 use Rattle.words.proofs.Says.{Says, says-same, says-iff, and-says, lt-says, true-so, so-true, false-so, so-false}
 use Rattle.words.proofs.Counted.{filter-short}
-use Rattle.regions.specs.Positions.{holds, nested}
-use Rattle.regions.specs.Sets.{startsBefore, startsFrom}
-use Rattle.regions.specs.Sound.{Rising, Nesting}
+use Rattle.regions.specs.Limits.{mostAround}
+use Rattle.regions.specs.Positions.{holds}
+use Rattle.regions.specs.Sets.{Set, startsBefore, startsFrom}
+use Rattle.regions.specs.Sound.{Wf, Rising, Nesting, Sound}
 use Rattle.regions.specs.declared.Region.{Region}
-use Rattle.regions.proofs.Means.{holds-says, before-says, from-says, nested-in-turn}
+use Rattle.regions.proofs.Means.{formed-says, holds-says, before-says, from-says, contains-says}
 use Rattle.regions.proofs.Rising.{parts}
+use Rattle.regions.proofs.Chain.{Inward, together-inward, around-few}
 use Rattle.stack.specs.Stacks.{holdsUpTo, endsBehind, Falling}
 
 -- WHAT THE TESTS SAY
@@ -33,15 +35,20 @@ ends-says q r = lt-says q (r .end)
 pub upto-strict : (p : ℕ) (rs : List Region) → filter (holdsUpTo p p) rs ≡ filter (holds p) rs
 upto-strict p rs = filter-same (holdsUpTo p p) (holds p) rs (all-every (λ r. says-same (upto-says p p r) (holds-says p r)) rs)
 
--- FALLING ENDS of those that hold one place, by themselves or with one that starts there
-pub holders-fall : (s p : ℕ) → s ≤ suc p → (rs : List Region) → Rising rs → Nesting rs → Falling (filter (holdsUpTo s p) rs)
-holders-fall s p l rs up nest =
-    pairs-filter {R = λ x y. (x .start < y .start) × (nested x y ≡ true)} {S = λ x y. y .end < x .end} (holdsUpTo s p)
-    (λ x y a b m. turn x y (upto-says s p x .yes-so a) (upto-says s p y .yes-so b) m) rs
-    (pairs-two {S = λ x y. (x .start < y .start) × (nested x y ≡ true)} (λ x y u n. (u, n)) rs up nest)
-  where
-    turn : (x y : Region) → (x .start < s) × (p < x .end) → (y .start < s) × (p < y .end) → (x .start < y .start) × (nested x y ≡ true) → y .end < x .end
-    turn x y a b m = true-so (nested-in-turn x y (m .0) (omega arith)) (m .1) (omega arith)
+-- ONE IN THE OTHER: those that hold one place, by themselves or with one that starts there
+module _ (s p : ℕ) (l : s ≤ suc p) where
+  holders-inward : (rs : List Region) → Rising rs → Nesting rs → Inward (filter (holdsUpTo s p) rs)
+  holders-inward rs up nest =
+      together-inward (holdsUpTo s p) (λ x y a b. let u = upto-says s p x .yes-so a in let v = upto-says s p y .yes-so b in omega arith) rs up nest
+
+  -- so their ends fall
+  pub holders-fall : (rs : List Region) → Rising rs → Nesting rs → Falling (filter (holdsUpTo s p) rs)
+  holders-fall rs up nest =
+      pairs-mono {S = λ x y. y .end < x .end} (λ x y c. true-so (contains-says x y) c .1) (filter (holdsUpTo s p) rs) (holders-inward rs up nest)
+
+  -- and of a set there are no more than levels
+  pub holders-few : (S : Set) → Sound S → length (filter (holdsUpTo s p) (S .regions)) ≤ mostAround
+  holders-few S g = around-few S g (holdsUpTo s p) (holders-inward (S .regions) (g .rising) (g .nesting))
 
 -- POPPING from the top while it has ended: a filter. One is popped; the first that stays, stays with all below it
 pub pop-one : (q : ℕ) (us : List Region) (r : Region) → r .end ≤ q → filter (endsBehind q) (us ++ r ∷ []) ≡ filter (endsBehind q) us
@@ -139,15 +146,45 @@ first-from rs y e rest up is =
           ∙ ap (e ∷_) (filter-none (startsBefore n) rest (all-mono {Q = λ x. startsBefore n x ≡ false} (λ x k. so-false (before-says n x) (λ m. omega arith)) rest (later .0))));
     }
 
--- one more: where it ends behind q, it holds q too; and a stack of so many has room for it
-module _ (y z q : ℕ) (rs : List Region) (e : Region) (rest : List Region) (f : First rs y e rest) where
-  pub come-one : e .start < z → filter (holdsUpTo z q) (filter (startsBefore y) rs) ++ filter (endsBehind q) (e ∷ []) ≡ filter (holdsUpTo z q) (filter (startsBefore (suc (e .start))) rs)
-  come-one l =
-      ap (λ vs. filter (holdsUpTo z q) (filter (startsBefore y) rs) ++ vs)
-      (filter-same (endsBehind q) (holdsUpTo z q) (e ∷ []) (says-same (ends-says q e) (says-iff (upto-says z q e) (λ h. h .1) (λ h. (l, h))), tt))
-      ∙ sym (filter-append (holdsUpTo z q) (filter (startsBefore y) rs) (e ∷ [])) ∙ ap (filter (holdsUpTo z q)) (sym (f .front))
+-- one more: where it ends behind q, it holds q too
+pub come-one : (y z q : ℕ) (rs : List Region) (e : Region) (rest : List Region) → First rs y e rest → e .start < z
+    → filter (holdsUpTo z q) (filter (startsBefore y) rs) ++ filter (endsBehind q) (e ∷ []) ≡ filter (holdsUpTo z q) (filter (startsBefore (suc (e .start))) rs)
+come-one y z q rs e rest f l =
+    ap (λ vs. filter (holdsUpTo z q) (filter (startsBefore y) rs) ++ vs)
+    (filter-same (endsBehind q) (holdsUpTo z q) (e ∷ []) (says-same (ends-says q e) (says-iff (upto-says z q e) (λ h. h .1) (λ h. (l, h))), tt))
+    ∙ sym (filter-append (holdsUpTo z q) (filter (startsBefore y) rs) (e ∷ [])) ∙ ap (filter (holdsUpTo z q)) (sym (f .front))
 
-  pub front-few : suc (length (filter (holdsUpTo z q) (filter (startsBefore y) rs))) ≤ length rs
+-- and the stack has room for it, whether it holds q or not: it and all that the stack has by then hold the position where it starts
+module _ (y z q : ℕ) (S : Set) (g : Sound S) (e : Region) (rest : List Region) (f : First (S .regions) y e rest) (l : e .start < z) (k : z ≤ suc q) where
+  abbrev here : Region → Bool
+  here = holdsUpTo (suc (e .start)) (e .start)
+
+  abbrev earlier : List Region
+  earlier = filter (startsBefore y) (S .regions)
+
+  own : here e ≡ true
+  own =
+      let w = subst (λ (rs : List Region). All Wf rs) (f .front) (all-kept Wf (startsBefore (suc (e .start))) (S .regions) (g .formed)) in
+      so-true (upto-says (suc (e .start)) (e .start) e) (omega arith, true-so (formed-says e) (all-right Wf earlier (e ∷ []) w .0) .order)
+
+  within : filter (holdsUpTo z q) earlier ≡ filter (holdsUpTo z q) (filter here earlier)
+  within =
+      filter-within (holdsUpTo z q) here earlier
+      (all-mono {Q = λ r. holdsUpTo z q r ≡ true → here r ≡ true} (λ r b h. there r (true-so (before-says y r) b) (true-so (upto-says z q r) h)) earlier (all-let (startsBefore y) (S .regions)))
+    where
+      there : (r : Region) → r .start < y → (r .start < z) × (q < r .end) → here r ≡ true
+      there r b h = so-true (upto-says (suc (e .start)) (e .start) r) (omega (arith, f .low), omega arith)
+
+  pub front-few : length (filter (holdsUpTo z q) earlier) < mostAround
   front-few =
-      omega
-      (arith, filter-short (holdsUpTo z q) (filter (startsBefore y) rs), ap length (f .front), length-append (filter (startsBefore y) rs) (e ∷ []), filter-short (startsBefore (suc (e .start))) rs)
+      omega (
+        arith,
+        ap length within,
+        filter-short (holdsUpTo z q) (filter here earlier),
+        length-append (filter here earlier) (filter here (e ∷ [])),
+        ap length (filter-yes here e [] own),
+        ap length (ap (filter here) (f .front) ∙ filter-append here earlier (e ∷ [])),
+        ap length (filter-comm here (startsBefore (suc (e .start))) (S .regions)),
+        filter-short (startsBefore (suc (e .start))) (filter here (S .regions)),
+        holders-few (suc (e .start)) (e .start) (omega arith) S g,
+      )

@@ -6,7 +6,7 @@ use mathlib.Core.List.{List, [], _∷_, _++_}
 use lib.Dec.{ltb}
 use lib.ListN.{getD}
 use Rattle.words.specs.Lists.{Pairs}
-use Rattle.regions.specs.Limits.{mostRegions, regionWidth}
+use Rattle.regions.specs.Limits.{mostAround, regionWidth}
 use Rattle.regions.specs.declared.Region.{Region}
 
 -- THOSE THAT HOLD A PLACE p: they start before s and end behind p. With s = p they hold it strictly; with s = p + 1 one that starts at p holds it too
@@ -20,9 +20,9 @@ endsBehind q r = ltb q (r .end)
 abbrev pub Falling : List Region → Type 0
 Falling rs = Pairs (λ x y. y .end < x .end) rs
 
--- IN WORDS: room for all regions of a set. Region number i, and the first n of them, the top last
+-- IN WORDS: room for as many as can lie around one position. Region number i, and the first n of them, the top last
 abbrev pub heldWords : ℕ
-heldWords = regionWidth * mostRegions
+heldWords = regionWidth * mostAround
 
 unfoldable pub regionAt : List ℕ → ℕ → Region
 regionAt ws i = record { start = getD ws (4 * i) 0; end = getD ws (4 * i + 1) 0; level = getD ws (4 * i + 2) 0; reference = getD ws (4 * i + 3) 0 }

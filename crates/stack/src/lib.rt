@@ -6,7 +6,7 @@ ghost use mathlib.Core.Bool.{true, false};
 ghost use mathlib.Core.List.{[], _∷_, _++_};
 ghost use lib.ListN.{length};
 ghost use Rattle.words.specs.Lists.{filter, All};
-ghost use Rattle.regions.specs.Limits.{mostRegions};
+ghost use Rattle.regions.specs.Limits.{mostAround};
 ghost use Rattle.regions.specs.Positions.{holds};
 ghost use Rattle.regions.specs.Calls.{pairOf};
 ghost use Rattle.regions.specs.Desk.{isPast};
@@ -18,12 +18,12 @@ use regions::Kind;
 use regions::Mark;
 use regions::Region;
 
-// Room for all regions of a set.
-pub const HELD_WORDS: usize = 2000;
+// Room for as many regions as can lie around one position: 255, since their levels rise inwards.
+pub const HELD_WORDS: usize = 1020;
 
 // Region number i of the stack.
 fn region_at(held: &[u32], i: usize) -> Region
-    requires { ⌜ (i < mostRegions) × (length (now held) ≡ heldWords) ⌝ }
+    requires { ⌜ (i < mostAround) × (length (now held) ≡ heldWords) ⌝ }
     ensures { λ r. ⌜ r ≡ regionAt (now (held .entry)) i ⌝ }
 {
     let at = 4 * i;
@@ -37,7 +37,7 @@ fn region_at(held: &[u32], i: usize) -> Region
 
 // How many are left once those on top that end at p or before are gone. Regions that hold one place end the sooner the later they start.
 pub fn pop_ended(held: &[u32], n: usize, p: u32) -> usize
-    requires { ⌜ (n ≤ mostRegions) × (length (now held) ≡ heldWords) ⌝ }
+    requires { ⌜ (n ≤ mostAround) × (length (now held) ≡ heldWords) ⌝ }
     requires { ⌜ Falling (stacked (now held) n) ⌝ }
     ensures { λ r. ⌜ stacked (now (held .entry)) r ≡ filter (endsBehind p) (stacked (now (held .entry)) n) ⌝ }
 {
@@ -51,9 +51,9 @@ pub fn pop_ended(held: &[u32], n: usize, p: u32) -> usize
     m
 }
 
-// A region that starts before p: where it holds p, it goes on top.
+// A region that starts before p: where it holds p, it goes on top. (There is room: it and those below it lie around the position where it starts.)
 pub fn push(held: &mut [u32], n: usize, a: Region, p: u32) -> usize
-    requires { ⌜ n < mostRegions ⌝ }
+    requires { ⌜ n < mostAround ⌝ }
     requires { ⌜ length (now held) ≡ heldWords ⌝ }
     ensures { λ r. ⌜ stacked (now (held .exit)) r ≡ stacked (now (held .entry)) n ++ filter (endsBehind p) (a ∷ []) ⌝ }
 {
@@ -74,7 +74,7 @@ fn pair_all(
     out: &mut [u32],
     total: usize,
 ) -> usize
-    requires { ⌜ (n ≤ mostRegions) × (total ≤ 250000) × (length (now held) ≡ heldWords) ⌝ }
+    requires { ⌜ (n ≤ mostAround) × (total ≤ 250000) × (length (now held) ≡ heldWords) ⌝ }
     requires { ⌜ All (λ (a : Region). holds (d .start) a ≡ true) (stacked (now held) n) ⌝ }
     ensures { λ r. ⌜ PairedUp (stacked (now (held .entry)) n) kind mark d true (now (out .entry)) total (now (out .exit)) r ⌝ }
 {
@@ -98,7 +98,7 @@ fn pair_fitting(
     out: &mut [u32],
     total: usize,
 ) -> usize
-    requires { ⌜ (n ≤ mostRegions) × (total ≤ 250000) × (length (now held) ≡ heldWords) ⌝ }
+    requires { ⌜ (n ≤ mostAround) × (total ≤ 250000) × (length (now held) ≡ heldWords) ⌝ }
     requires { ⌜ All (λ (a : Region). holds (d .start) a ≡ true) (stacked (now held) n) ⌝ }
     ensures { λ r. ⌜ PairedUp (stacked (now (held .entry)) n) kind mark d false (now (out .entry)) total (now (out .exit)) r ⌝ }
 {
@@ -118,7 +118,7 @@ fn pair_fitting(
 
 // Whether no pair of d with the stack comes past the mark: the innermost starts last, so that it alone is looked at. A seat that has been served up to a d's last pair begins so.
 fn none_past(held: &[u32], n: usize, d: Region, mark: Mark) -> bool
-    requires { ⌜ (n ≤ mostRegions) × (length (now held) ≡ heldWords) ⌝ }
+    requires { ⌜ (n ≤ mostAround) × (length (now held) ≡ heldWords) ⌝ }
     requires { ⌜ Rising (stacked (now held) n) ⌝ }
     ensures { λ r. ⌜ (r ≡ true → All (λ (a : Region). isPast mark (pairOf d a) ≡ false) (stacked (now (held .entry)) n)) ⌝ }
 {
@@ -140,7 +140,7 @@ pub fn pair_up(
     total: usize,
     all: bool,
 ) -> usize
-    requires { ⌜ (n ≤ mostRegions) × (total ≤ 250000) × (length (now held) ≡ heldWords) ⌝ }
+    requires { ⌜ (n ≤ mostAround) × (total ≤ 250000) × (length (now held) ≡ heldWords) ⌝ }
     requires { ⌜ All (λ (a : Region). holds (d .start) a ≡ true) (stacked (now held) n) ⌝ }
     requires { ⌜ Rising (stacked (now held) n) ⌝ }
     ensures { λ r. ⌜ PairedUp (stacked (now (held .entry)) n) kind mark d all (now (out .entry)) total (now (out .exit)) r ⌝ }

@@ -11,7 +11,7 @@ use Rattle.words.specs.Lists.{All, Pairs, all, allPairs, count, sumTo}
 use Rattle.words.proofs.Tests.{and-left, and-right}
 use Rattle.words.proofs.Listed.{all-left, all-right}
 use Rattle.words.proofs.Counted.{sum-count, sum-at-most}
-use Rattle.regions.specs.Positions.{wellFormed, nested}
+use Rattle.regions.specs.Positions.{wellFormed, nested, leveled}
 use Rattle.regions.specs.declared.Region.{Region}
 use Rattle.xrtree.specs.Tree.{Key, Tree, weave, listed, listRecords, regions, leaves, pagePlaces, recordPlaces, allKids}
 use Rattle.xrtree.specs.Rules.{within, filled, filledBelow, linked, startsFirst, rule2, rule3, rule4, rule5, rule6, sharesKept, placed}
@@ -149,6 +149,7 @@ module _ (w : List ℕ) (rs : List Region) (h : ℕ) (t : Tree h) (s : Stands w 
       let six′ : T (rule6 (setOf w)) = subst (λ S. T (rule6 S)) (sym set-is) six in
       let a = and-right (all wellFormed (setOf w .regions)) _ six′ in
       let b = and-right (allPairs nested (setOf w .regions)) _ a in
+      let c = and-right (allPairs leveled (setOf w .regions)) _ b in
       facts-valid w
       (record {
         long = s .long;
@@ -163,8 +164,9 @@ module _ (w : List ℕ) (rs : List Region) (h : ℕ) (t : Tree h) (s : Stands w 
         fifth = at-tree (λ k x. T (rule5 k x)) (g .fifth);
         formed = and-left (all wellFormed (setOf w .regions)) _ six′;
         nest = and-left (allPairs nested (setOf w .regions)) _ a;
-        kept = and-left (sharesKept 16 (setOf w)) _ b;
-        sums = and-right (sharesKept 16 (setOf w)) _ b;
+        level = and-left (allPairs leveled (setOf w .regions)) _ b;
+        kept = and-left (sharesKept 16 (setOf w)) _ c;
+        sums = and-right (sharesKept 16 (setOf w)) _ c;
         pages = at-tree (λ k x. T (placed (pageUsed w) 160 (pagePlaces k x)))
             (places-placed (pageUsed w) 160 (pagePlaces h t) (subst (Places (pageUsed w) 160) (append-nil (pagePlaces h t)) (s .pages)));
         records = at-tree (λ k x. T (placed (recordUsed w) 500 (recordPlaces k x))) (places-placed (recordUsed w) 500 (recordPlaces h t) own-records);

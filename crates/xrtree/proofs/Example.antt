@@ -8,7 +8,7 @@ use lib.Dec.{leb, ltb}
 use Rattle.words.specs.Lists.{filter, takeWhile, all, allPairs, count, sum}
 use Rattle.words.proofs.Tests.{T-of}
 use Rattle.words.proofs.Says.{lt-says, all-says}
-use Rattle.regions.specs.Positions.{wellBound, wellFormed, endsBefore, contains, nested, stabs, holds}
+use Rattle.regions.specs.Positions.{wellBound, wellFormed, endsBefore, contains, nested, misleveled, contradicts, leveled, stabs, holds}
 use Rattle.regions.specs.Sets.{Set, of}
 use Rattle.regions.specs.declared.Region.{Region}
 use Rattle.xrtree.specs.Tree.{Entry, Key, Tree, weave, listed, keysIn, stabList, allKids, regions, keysOf, pagePlaces, recordPlaces}
@@ -73,7 +73,7 @@ abbrev sampleSet : Set
 sampleSet = record { shares = 40 ∷ 0 ∷ 0 ∷ 0 ∷ 0 ∷ 0 ∷ 0 ∷ 0 ∷ 0 ∷ 0 ∷ 0 ∷ 0 ∷ 0 ∷ 0 ∷ 0 ∷ 0 ∷ []; regions = regions 2 sample }
 
 sample-6 : rule6 sampleSet ≡ true
-unfolding rule6 wellFormed wellBound nested endsBefore contains sharesKept of filter sum allPairs all listed weave
+unfolding rule6 wellFormed wellBound nested endsBefore contains misleveled contradicts leveled sharesKept of filter sum allPairs all listed weave
 sample-6 = refl
 
 -- page places 1 to 13 and record places 1 to 7 used, those up to 15 and 10 free

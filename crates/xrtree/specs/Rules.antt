@@ -7,7 +7,7 @@ use lib.Dec.{leb, ltb, eqb}
 use lib.ListN.{length}
 use Rattle.words.specs.Lists.{filter, all, allPairs, count, sum}
 use Rattle.regions.specs.Limits.{accountCount, mostRegions}
-use Rattle.regions.specs.Positions.{wellFormed, nested, stabs}
+use Rattle.regions.specs.Positions.{wellFormed, nested, leveled, stabs}
 use Rattle.regions.specs.Sets.{Set, heldBy, shareOf}
 use Rattle.regions.specs.declared.Region.{Region}
 use Rattle.xrtree.specs.Tree.{Entry, Key, Leaf, Tree, Item, regions, keysOf, leaves, items, keysIn, stabList, allKids}
@@ -113,13 +113,15 @@ unfoldable pub rule5 : (h : ℕ) → Tree h → Bool
 rule5 zero t = true
 rule5 (suc h) t = pairsRight (t .kids) && allKids (rule5 h) (t .kids) (t .last)
 
--- RULE 6: of the set: every region well formed, every two nested rightly, each account within its share, and the shares within 500 together
+-- RULE 6: of the set: every region well formed, every two nested rightly and leveled as they nest (change request C-15), each account within its share, and the shares within 500 together
 unfoldable pub sharesKept : ℕ → Set → Bool
 sharesKept zero S = true
 sharesKept (suc a) S = leb (heldBy a S) (shareOf a S) && sharesKept a S
 
 unfoldable pub rule6 : Set → Bool
-rule6 S = all wellFormed (S .regions) && (allPairs nested (S .regions) && (sharesKept accountCount S && leb (sum (S .shares)) mostRegions))
+rule6 S =
+    all wellFormed (S .regions) &&
+    (allPairs nested (S .regions) && (allPairs leveled (S .regions) && (sharesKept accountCount S && leb (sum (S .shares)) mostRegions)))
 
 -- RULE 7: of the places 1 to n, those in use are listed once and the others not at all; no other place is listed
 unfoldable pub onceOrFree : (ℕ → Bool) → ℕ → List ℕ → Bool

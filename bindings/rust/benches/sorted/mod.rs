@@ -14,6 +14,11 @@ fn crosses(x: &Region, y: &Region) -> bool {
     !apart && !around
 }
 
+fn contradicts(x: &Region, y: &Region) -> bool {
+    let in_order = |a: &Region, b: &Region| a.start > b.start || a.end < b.end || a.level < b.level;
+    !in_order(x, y) || !in_order(y, x)
+}
+
 fn well_formed(r: &Region) -> bool {
     r.start < r.end && r.start >> 16 == r.end >> 16 && r.level >= 1 && r.level <= 255
 }
@@ -68,6 +73,9 @@ impl Sorted {
         }
         if self.regions.iter().any(|x| crosses(x, &r)) {
             return 5;
+        }
+        if self.regions.iter().any(|x| contradicts(x, &r)) {
+            return 14;
         }
         if self.regions.iter().filter(|x| x.start >> 28 == account).count() >= self.share {
             return 6;

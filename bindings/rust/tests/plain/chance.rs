@@ -51,12 +51,18 @@ pub enum Shape {
 
 pub const SHAPES: [Shape; 3] = [Shape::Flat, Shape::Mixed, Shape::Deep];
 
-/// n regions that nest rightly, in one document from `base` on. Positions stand `gap` apart.
+/// As deep as regions can lie in one another: a level for each.
+pub const DEEPEST: usize = 255;
+
+/// n regions that nest rightly and are leveled as they nest, in one document from `base` on. Positions stand `gap` apart. The deep shape goes down to the
+/// last level, and has the others side by side there.
 pub fn nest(chance: &mut Chance, shape: Shape, base: u32, gap: u32, n: u32) -> Vec<Region> {
     // a walk of opened and closed elements: a region is one that was opened and closed
     let (mut open, mut regions, mut p, mut opened) = (Vec::new(), Vec::new(), base, 0);
     while opened < n || !open.is_empty() {
+        let around = open.last().map_or(0, |&(_, level)| level);
         let opens = opened < n
+            && around < DEEPEST as u32
             && match shape {
                 Shape::Flat => open.is_empty(),
                 Shape::Deep => true,
@@ -64,14 +70,23 @@ pub fn nest(chance: &mut Chance, shape: Shape, base: u32, gap: u32, n: u32) -> V
             };
         p += 1 + chance.below(gap);
         if opens {
-            open.push(p);
+            // some elements between the two are not in the set, but the deep shape has all
+            let left_out = if shape != Shape::Deep && chance.percent(10) { chance.below(3) } else { 0 };
+            open.push((p, (around + 1 + left_out).min(DEEPEST as u32)));
             opened += 1;
         } else {
-            let start: u32 = open.pop().unwrap();
-            // levels by depth, but some that say something else
-            let level = if chance.percent(10) { 1 + chance.below(255) } else { (open.len() as u32).min(254) + 1 };
+            let (start, level) = open.pop().unwrap();
             regions.push(Region { start, end: p, level, reference: chance.word() });
         }
     }
     regions
+}
+
+/// The same regions, some of them at levels that say something else.
+pub fn mislevel(chance: &mut Chance, regions: &mut [Region]) {
+    for r in regions {
+        if chance.percent(10) {
+            r.level = 1 + chance.below(DEEPEST as u32);
+        }
+    }
 }

@@ -1,6 +1,6 @@
 //! Reads an image's words as docs/LAYOUT.md lays them out, and tests the scope paper's seven rules one by one, by brute force.
 
-use super::{account_of, nested, well_formed, Set};
+use super::{account_of, leveled, nested, well_formed, Set};
 use sasnuvarth::Region;
 
 pub struct Entry {
@@ -158,7 +158,7 @@ fn set_right(set: &Set) -> bool {
     let held = |a: usize| rs.iter().filter(|r| account_of(r.start) as usize == a).count();
     sum <= 500
         && rs.iter().all(well_formed)
-        && rs.iter().enumerate().all(|(i, x)| rs[i + 1..].iter().all(|y| nested(x, y)))
+        && rs.iter().enumerate().all(|(i, x)| rs[i + 1..].iter().all(|y| nested(x, y) && leveled(x, y)))
         && (0..16).all(|a| held(a) <= set.shares[a] as usize)
 }
 

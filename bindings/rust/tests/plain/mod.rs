@@ -16,6 +16,7 @@ pub const CROSS: u32 = 5;
 pub const SHARE: u32 = 6;
 pub const ABSENT: u32 = 7;
 pub const SHARES: u32 = 8;
+pub const LEVEL: u32 = 14;
 
 pub fn document_of(p: u32) -> u32 {
     p / 65_536
@@ -33,10 +34,18 @@ pub fn well_formed(r: &Region) -> bool {
     well_bound(r.start, r.end) && r.level >= 1 && r.level <= 255
 }
 
+fn around(x: &Region, y: &Region) -> bool {
+    x.start < y.start && y.end < x.end
+}
+
 pub fn nested(x: &Region, y: &Region) -> bool {
     let apart = x.end < y.start || y.end < x.start;
-    let around = |a: &Region, b: &Region| a.start < b.start && b.end < a.end;
     apart || around(x, y) || around(y, x)
+}
+
+/// Whether the levels say how the two nest: what lies around has the smaller one.
+pub fn leveled(x: &Region, y: &Region) -> bool {
+    (!around(x, y) || x.level < y.level) && (!around(y, x) || y.level < x.level)
 }
 
 pub fn holds(r: &Region, p: u32) -> bool {
@@ -87,6 +96,7 @@ impl Set {
             _ if foreign(account, r.start) => ACCOUNT,
             _ if self.regions.iter().any(|x| x.start == r.start) => HELD,
             _ if self.regions.iter().any(|x| !nested(x, r)) => CROSS,
+            _ if self.regions.iter().any(|x| !leveled(x, r)) => LEVEL,
             _ if self.held_by(account) >= self.shares[account as usize] as usize => SHARE,
             _ => 0,
         }

@@ -4,7 +4,7 @@ use borrow.Author.Needs.{needs}
 use mathlib.Core.Path.{sym, _∙_}
 use native.Mathlib.Omega.{arith}
 use lib.ListN.{length}
-use Rattle.image.proofs.Sound.{set-rises, at-most-500}
+use Rattle.image.proofs.Sound.{set-rises, valid-sound}
 use Rattle.leaves.specs.Cursors.{left}
 use Rattle.leaves.proofs.Faces.{faces-few, faces-less, faced-is}
 use Rattle.follow.specs.Places.{Coming}
@@ -52,7 +52,7 @@ returns-2 : tie.Need-returns-2 Inv-loop μ-loop
 returns-2 c = c .before .before .refill .ensures
 
 push-requires : tie.Need-push-requires Inv-loop μ-loop
-push-requires c κs = (coming-room (c .before .before .before .before .before .before .before .before .before .before .loop .inv) (set-rises _ (c .before .before .before .before .before .before .before .before .before .before .before .before .before .before .pre .0)) _ _ (sym (c .before .before .before .before .before .before .before .step .ensures) ∙ c .before .before .before .before .before .step2 .given .1) (at-most-500 _ (λ i. omega (arith, c .before .before .before .before .before .before .before .before .before .before .before .before .before .shared-slice-known .given i)) (c .before .before .before .before .before .before .before .before .before .before .before .before .before .before .pre .0)), c .before .before .before .before .before .before .before .before .before .before .loop .inv .long)
+push-requires c κs = (coming-room (c .before .before .before .before .before .before .before .before .before .before .loop .inv) (set-rises _ (c .before .before .before .before .before .before .before .before .before .before .before .before .before .before .pre .0)) _ _ (sym (c .before .before .before .before .before .before .before .step .ensures) ∙ c .before .before .before .before .before .step2 .given .1) (valid-sound _ (λ i. omega (arith, c .before .before .before .before .before .before .before .before .before .before .before .before .before .shared-slice-known .given i)) (c .before .before .before .before .before .before .before .before .before .before .before .before .before .before .pre .0)) (omega (arith, c .before .before .before .before .before .before .before .before .if1 .taken, c .before .before .before .before .before .before .before .before .before .start .ensures, faced-is _ _ _ (sym (c .before .before .before .before .before .before .before .step .ensures) ∙ c .before .before .before .before .before .step2 .given .1))) (omega arith), c .before .before .before .before .before .before .before .before .before .before .loop .inv .long)
 
 loop-less : tie.Need-loop-less Inv-loop μ-loop
 loop-less c = faces-less _ _ _ _ _ (c .before .before .before .before .before .before .before .before .before .before .before .before .before .loop .inv .faces) (sym (c .before .before .before .before .before .before .before .before .before .before .step .ensures) ∙ c .before .before .before .before .before .before .before .before .step2 .given .1)

@@ -2,7 +2,7 @@
 -- Assumes nothing.
 use borrow.Author.Needs.{needs}
 use native.Mathlib.Omega.{arith}
-use Rattle.image.proofs.Sound.{at-most-500}
+use Rattle.image.proofs.Sound.{valid-sound}
 use Rattle.path.proofs.Ways.{descend-asks}
 use Rattle.follow.proofs.Moves.{refilled}
 use Rattle.follow.proofs.refill.Statement.{statement}
@@ -21,7 +21,7 @@ same-length : tie.Need-same-length
 same-length c = search needs
 
 returns : tie.Need-returns
-returns c = refilled _ _ _ _ _ _ _ (c .before .before .before .before .before .before .before .before .pre .1) (at-most-500 _ (λ i. omega (arith, c .before .before .before .before .before .before .before .shared-slice-known .given i)) (c .before .before .before .before .before .before .before .before .pre .0)) (c .before .before .before .ancestors-along .ensures) (c .seek-along .ensures)
+returns c = refilled _ _ _ _ _ _ _ (c .before .before .before .before .before .before .before .before .pre .1) (valid-sound _ (λ i. omega (arith, c .before .before .before .before .before .before .before .shared-slice-known .given i)) (c .before .before .before .before .before .before .before .before .pre .0)) (c .before .before .before .ancestors-along .ensures) (c .seek-along .ensures)
 
 pub refill-spec : {M : Type 1} → statement M
 refill-spec =

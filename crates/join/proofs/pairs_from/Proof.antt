@@ -60,7 +60,7 @@ slice-aggregate-pair-up : tie.Need-slice-aggregate-pair-up Inv-loop μ-loop
 slice-aggregate-pair-up c = sym (c .before .before .follow .ensures .long)
 
 pair-up-requires : tie.Need-pair-up-requires Inv-loop μ-loop
-pair-up-requires c κs = ((placed-few (c .before .before .before .follow .ensures) (at-most-500 _ (λ i. omega (arith, c .before .before .before .before .before .before .before .before .before .before .before .before .before .before .before .before .before .before .shared-slice-known .given i)) (c .before .before .before .before .before .before .before .before .before .before .before .before .before .before .before .before .before .before .before .pre .0)), join-small (c .before .before .before .before .before .before .before .before .before .before .before .before .loop .inv) (set-rises _ (c .before .before .before .before .before .before .before .before .before .before .before .before .before .before .before .before .before .before .before .pre .1 .0)), c .before .before .before .follow .ensures .long), (placed-holds (c .before .before .before .follow .ensures), placed-rises (c .before .before .before .follow .ensures) (set-rises _ (c .before .before .before .before .before .before .before .before .before .before .before .before .before .before .before .before .before .before .before .pre .0))))
+pair-up-requires c κs = ((placed-few (omega arith) (c .before .before .before .follow .ensures) (valid-sound _ (λ i. omega (arith, c .before .before .before .before .before .before .before .before .before .before .before .before .before .before .before .before .before .before .shared-slice-known .given i)) (c .before .before .before .before .before .before .before .before .before .before .before .before .before .before .before .before .before .before .before .pre .0)), join-small (c .before .before .before .before .before .before .before .before .before .before .before .before .loop .inv) (set-rises _ (c .before .before .before .before .before .before .before .before .before .before .before .before .before .before .before .before .before .before .before .pre .1 .0)), c .before .before .before .follow .ensures .long), (placed-holds (c .before .before .before .follow .ensures), placed-rises (c .before .before .before .follow .ensures) (set-rises _ (c .before .before .before .before .before .before .before .before .before .before .before .before .before .before .before .before .before .before .before .pre .0))))
 
 next-d-requires : tie.Need-next-d-requires Inv-loop μ-loop
 next-d-requires c κs = (c .before .before .before .before .before .before .before .before .before .before .before .before .before .before .before .before .before .before .before .before .before .before .pre .0, (c .before .before .before .before .before .before .before .before .before .before .before .before .before .before .before .before .before .before .before .before .before .before .pre .1 .0, (c .before .before .before .before .before .before .follow .ensures .faces, join-onward (c .before .before .before .before .before .before .before .before .before .before .before .before .before .before .before .loop .inv) (set-rises _ (c .before .before .before .before .before .before .before .before .before .before .before .before .before .before .before .before .before .before .before .before .before .before .pre .1 .0)) _ _ (sym (c .before .before .before .before .before .before .before .before .before .before .before .before .own-step .ensures) ∙ c .before .before .before .before .before .before .before .before .before .before .step .given .1))))
@@ -69,7 +69,7 @@ loop-less : tie.Need-loop-less Inv-loop μ-loop
 loop-less c = join-less (c .before .before .before .before .before .before .before .before .before .before .before .before .before .before .before .before .loop .inv) (set-rises _ (c .before .before .before .before .before .before .before .before .before .before .before .before .before .before .before .before .before .before .before .before .before .before .before .pre .1 .0)) _ _ (sym (c .before .before .before .before .before .before .before .before .before .before .before .before .before .own-step .ensures) ∙ c .before .before .before .before .before .before .before .before .before .before .before .step .given .1) _ _ _ _ _ (c .before .before .before .before .before .before .before .follow .ensures) (c .before .before .before .pair-up .ensures) (c .next-d .ensures)
 
 loop-again : tie.Need-loop-again Inv-loop μ-loop
-loop-again c = join-on (c .before .before .before .before .before .before .before .before .before .before .before .before .before .before .before .before .loop .inv) (set-rises _ (c .before .before .before .before .before .before .before .before .before .before .before .before .before .before .before .before .before .before .before .before .before .before .before .pre .1 .0)) _ _ (sym (c .before .before .before .before .before .before .before .before .before .before .before .before .before .own-step .ensures) ∙ c .before .before .before .before .before .before .before .before .before .before .before .step .given .1) _ _ _ _ _ (c .before .before .before .before .before .before .before .follow .ensures) (c .before .before .before .pair-up .ensures) (c .next-d .ensures) (valid-sound _ (λ i. omega (arith, c .before .before .before .before .before .before .before .before .before .before .before .before .before .before .before .before .before .before .before .before .before .before .shared-slice-known .given i)) (c .before .before .before .before .before .before .before .before .before .before .before .before .before .before .before .before .before .before .before .before .before .before .before .pre .0)) (at-most-500 _ (λ i. omega (arith, c .before .before .before .before .before .before .before .before .before .before .before .before .before .before .before .before .before .before .before .before .before .before .shared-slice-known .given i)) (c .before .before .before .before .before .before .before .before .before .before .before .before .before .before .before .before .before .before .before .before .before .before .before .pre .0))
+loop-again c = join-on (c .before .before .before .before .before .before .before .before .before .before .before .before .before .before .before .before .loop .inv) (set-rises _ (c .before .before .before .before .before .before .before .before .before .before .before .before .before .before .before .before .before .before .before .before .before .before .before .pre .1 .0)) _ _ (sym (c .before .before .before .before .before .before .before .before .before .before .before .before .before .own-step .ensures) ∙ c .before .before .before .before .before .before .before .before .before .before .before .step .given .1) _ _ _ _ _ (c .before .before .before .before .before .before .before .follow .ensures) (c .before .before .before .pair-up .ensures) (c .next-d .ensures) (valid-sound _ (λ i. omega (arith, c .before .before .before .before .before .before .before .before .before .before .before .before .before .before .before .before .before .before .before .before .before .before .shared-slice-known .given i)) (c .before .before .before .before .before .before .before .before .before .before .before .before .before .before .before .before .before .before .before .before .before .before .before .pre .0))
 
 told-requires-2 : tie.Need-told-requires-2 Inv-loop μ-loop
 told-requires-2 c κs = search needs

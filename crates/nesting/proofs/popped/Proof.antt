@@ -1,7 +1,8 @@
 -- `nesting::popped` meets its contract: what is closed and what is left of the stack are together what stood on it.
 -- Assumes nothing.
-use Prim.Native.Nat.{_≤_}
+use Prim.Native.Nat.{ℕ, _≤_}
 use mathlib.Core.Path.{_≡_, refl, _∙_}
+use mathlib.Core.List.{List}
 use native.Mathlib.Omega.{arith}
 use Rattle.nesting.specs.Pass.{pop, stackOf}
 use Rattle.nesting.proofs.Stack.{pop-stop, pop-down, pop-none}
@@ -9,13 +10,13 @@ use Rattle.nesting.proofs.popped.Statement.{statement}
 use Rattle.nesting.proofs.popped.Tie as tie
 
 abbrev Inv-loop : tie.InvT-loop
-Inv-loop stack top s t₀ t = (t ≤ top) × (pop s (stackOf stack t) ≡ pop s (stackOf stack top))
+Inv-loop ends top s t₀ t = (t ≤ top) × ((levels : List ℕ) → pop s (stackOf ends levels t) ≡ pop s (stackOf ends levels top))
 
 abbrev μ-loop : tie.MeasureT-loop
-μ-loop stack top s t₀ t = t
+μ-loop ends top s t₀ t = t
 
 loop-holds : tie.Need-loop-holds Inv-loop μ-loop
-loop-holds c = (omega arith, refl)
+loop-holds c = (omega arith, λ levels. refl)
 
 sub-word : tie.Need-sub-word Inv-loop μ-loop
 sub-word c = omega arith
@@ -24,7 +25,7 @@ word-requires : tie.Need-word-requires Inv-loop μ-loop
 word-requires c κs = tt
 
 returns : tie.Need-returns Inv-loop μ-loop
-returns c = (omega arith, pop-stop _ _ (c .before .before .before .before .before .args .s) _ (c .before .word .ensures) (omega arith) (omega arith) ∙ c .before .before .before .loop .inv .1)
+returns c = (omega arith, λ levels. pop-stop _ levels _ (c .before .before .before .before .before .args .s) _ (c .before .word .ensures) (omega arith) (omega arith) ∙ c .before .before .before .loop .inv .1 levels)
 
 sub-t : tie.Need-sub-t Inv-loop μ-loop
 sub-t c = omega arith
@@ -33,10 +34,10 @@ loop-less : tie.Need-loop-less Inv-loop μ-loop
 loop-less c = omega arith
 
 loop-again : tie.Need-loop-again Inv-loop μ-loop
-loop-again c = (omega arith, pop-down _ _ (c .before .before .before .before .before .args .s) _ (c .before .word .ensures) (omega arith) (omega arith) ∙ c .before .before .before .loop .inv .1)
+loop-again c = (omega arith, λ levels. pop-down _ levels _ (c .before .before .before .before .before .args .s) _ (c .before .word .ensures) (omega arith) (omega arith) ∙ c .before .before .before .loop .inv .1 levels)
 
 returns-2 : tie.Need-returns-2 Inv-loop μ-loop
-returns-2 c = (omega arith, pop-none _ _ _ (c .loop-test .left) ∙ c .before .loop .inv .1)
+returns-2 c = (omega arith, λ levels. pop-none _ levels _ _ (c .loop-test .left) ∙ c .before .loop .inv .1 levels)
 
 pub popped-spec : {M : Type 1} → statement M
 popped-spec =

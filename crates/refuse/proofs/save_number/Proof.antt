@@ -5,14 +5,9 @@ use mathlib.Core.Path.{sym, _∙_}
 use denote.Ref.{now}
 use Rattle.words.proofs.Tests.{not-true, not-false}
 use Rattle.image.specs.Read.{setOf}
-use Rattle.refuse.proofs.Numbers.{save-region, save-foreign, save-held, save-cross, save-share, save-goes, formed-order, own-low}
+use Rattle.refuse.proofs.Numbers.{save-region, save-foreign, save-held, save-cross, save-level, save-share, save-goes, formed-order, own-low}
 use Rattle.refuse.proofs.save_number.Statement.{statement}
 use Rattle.refuse.proofs.save_number.Tie as tie
-use Rattle.refuse.proofs.is_full.Reads as is-full-reads
-use Rattle.refuse.proofs.is_held.Reads as is-held-reads
-use Rattle.regions.proofs.foreign.Reads as foreign-reads
-use Rattle.regions.proofs.well_formed.Reads as well-formed-reads
-use Rattle.clashes.proofs.crosses_held.Reads as crosses-held-reads
 
 well-formed-requires : tie.Need-well-formed-requires
 well-formed-requires c κs = search needs
@@ -32,20 +27,29 @@ is-held-requires c κs = search needs
 returns-3 : tie.Need-returns-3
 returns-3 c = save-held (setOf (now (c .before .before .before .before .before .before .before .args .img))) _ _ (sym (c .before .before .before .before .before .well-formed .ensures) ∙ not-false (c .before .before .before .before .before .well-formed .result) (c .before .before .before .before .if1 .left)) (sym (c .before .before .before .foreign .ensures) ∙ c .before .before .if2 .left) (sym (c .before .is-held .ensures) ∙ c .if3 .taken)
 
+innermost-at-requires : tie.Need-innermost-at-requires
+innermost-at-requires c κs = search needs
+
 crosses-held-requires : tie.Need-crosses-held-requires
-crosses-held-requires c κs = (c .before .before .before .before .before .before .before .pre .0, (formed-order _ (sym (c .before .before .before .before .before .well-formed .ensures) ∙ not-false (c .before .before .before .before .before .well-formed .result) (c .before .before .before .before .if1 .left)), (sym (c .before .is-held .ensures) ∙ c .if3 .left)))
+crosses-held-requires c κs = (c .before .before .before .before .before .before .before .before .pre .0, (formed-order _ (sym (c .before .before .before .before .before .before .well-formed .ensures) ∙ not-false (c .before .before .before .before .before .before .well-formed .result) (c .before .before .before .before .before .if1 .left)), ((sym (c .before .before .is-held .ensures) ∙ c .before .if3 .left), c .innermost-at .ensures)))
 
 returns-4 : tie.Need-returns-4
-returns-4 c = save-cross (setOf (now (c .before .before .before .before .before .before .before .before .before .args .img))) _ _ (sym (c .before .before .before .before .before .before .before .well-formed .ensures) ∙ not-false (c .before .before .before .before .before .before .before .well-formed .result) (c .before .before .before .before .before .before .if1 .left)) (sym (c .before .before .before .before .before .foreign .ensures) ∙ c .before .before .before .before .if2 .left) (sym (c .before .before .before .is-held .ensures) ∙ c .before .before .if3 .left) (sym (c .before .crosses-held .ensures) ∙ c .if4 .taken)
+returns-4 c = save-cross (setOf (now (c .before .before .before .before .before .before .before .before .before .before .args .img))) _ _ (sym (c .before .before .before .before .before .before .before .before .well-formed .ensures) ∙ not-false (c .before .before .before .before .before .before .before .before .well-formed .result) (c .before .before .before .before .before .before .before .if1 .left)) (sym (c .before .before .before .before .before .before .foreign .ensures) ∙ c .before .before .before .before .before .if2 .left) (sym (c .before .before .before .before .is-held .ensures) ∙ c .before .before .before .if3 .left) (sym (c .before .crosses-held .ensures) ∙ c .if4 .taken)
 
-is-full-requires : tie.Need-is-full-requires
-is-full-requires c κs = (c .before .before .before .before .before .before .before .before .before .pre .0, (own-low _ _ (sym (c .before .before .before .before .before .foreign .ensures) ∙ c .before .before .before .before .if2 .left), c .before .before .before .before .before .before .before .before .before .pre .1 (own-low _ _ (sym (c .before .before .before .before .before .foreign .ensures) ∙ c .before .before .before .before .if2 .left))))
+contradicts-held-requires : tie.Need-contradicts-held-requires
+contradicts-held-requires c κs = (c .before .before .before .before .before .before .before .before .before .before .pre .0, (formed-order _ (sym (c .before .before .before .before .before .before .before .before .well-formed .ensures) ∙ not-false (c .before .before .before .before .before .before .before .before .well-formed .result) (c .before .before .before .before .before .before .before .if1 .left)), ((sym (c .before .crosses-held .ensures) ∙ c .if4 .left), c .before .before .innermost-at .ensures)))
 
 returns-5 : tie.Need-returns-5
-returns-5 c = save-share (setOf (now (c .before .before .before .before .before .before .before .before .before .before .before .args .img))) _ _ (sym (c .before .before .before .before .before .before .before .before .before .well-formed .ensures) ∙ not-false (c .before .before .before .before .before .before .before .before .before .well-formed .result) (c .before .before .before .before .before .before .before .before .if1 .left)) (sym (c .before .before .before .before .before .before .before .foreign .ensures) ∙ c .before .before .before .before .before .before .if2 .left) (sym (c .before .before .before .before .before .is-held .ensures) ∙ c .before .before .before .before .if3 .left) (sym (c .before .before .before .crosses-held .ensures) ∙ c .before .before .if4 .left) (sym (c .before .is-full .ensures) ∙ c .if5 .taken)
+returns-5 c = save-level (setOf (now (c .before .before .before .before .before .before .before .before .before .before .before .before .args .img))) _ _ (sym (c .before .before .before .before .before .before .before .before .before .before .well-formed .ensures) ∙ not-false (c .before .before .before .before .before .before .before .before .before .before .well-formed .result) (c .before .before .before .before .before .before .before .before .before .if1 .left)) (sym (c .before .before .before .before .before .before .before .before .foreign .ensures) ∙ c .before .before .before .before .before .before .before .if2 .left) (sym (c .before .before .before .before .before .before .is-held .ensures) ∙ c .before .before .before .before .before .if3 .left) (sym (c .before .before .before .crosses-held .ensures) ∙ c .before .before .if4 .left) (sym (c .before .contradicts-held .ensures) ∙ c .if5 .taken)
+
+is-full-requires : tie.Need-is-full-requires
+is-full-requires c κs = (c .before .before .before .before .before .before .before .before .before .before .before .before .pre .0, (own-low _ _ (sym (c .before .before .before .before .before .before .before .before .foreign .ensures) ∙ c .before .before .before .before .before .before .before .if2 .left), c .before .before .before .before .before .before .before .before .before .before .before .before .pre .1 (own-low _ _ (sym (c .before .before .before .before .before .before .before .before .foreign .ensures) ∙ c .before .before .before .before .before .before .before .if2 .left))))
 
 returns-6 : tie.Need-returns-6
-returns-6 c = save-goes (setOf (now (c .before .before .before .before .before .before .before .before .before .before .before .args .img))) _ _ (sym (c .before .before .before .before .before .before .before .before .before .well-formed .ensures) ∙ not-false (c .before .before .before .before .before .before .before .before .before .well-formed .result) (c .before .before .before .before .before .before .before .before .if1 .left)) (sym (c .before .before .before .before .before .before .before .foreign .ensures) ∙ c .before .before .before .before .before .before .if2 .left) (sym (c .before .before .before .before .before .is-held .ensures) ∙ c .before .before .before .before .if3 .left) (sym (c .before .before .before .crosses-held .ensures) ∙ c .before .before .if4 .left) (sym (c .before .is-full .ensures) ∙ c .if5 .left)
+returns-6 c = save-share (setOf (now (c .before .before .before .before .before .before .before .before .before .before .before .before .before .before .args .img))) _ _ (sym (c .before .before .before .before .before .before .before .before .before .before .before .before .well-formed .ensures) ∙ not-false (c .before .before .before .before .before .before .before .before .before .before .before .before .well-formed .result) (c .before .before .before .before .before .before .before .before .before .before .before .if1 .left)) (sym (c .before .before .before .before .before .before .before .before .before .before .foreign .ensures) ∙ c .before .before .before .before .before .before .before .before .before .if2 .left) (sym (c .before .before .before .before .before .before .before .before .is-held .ensures) ∙ c .before .before .before .before .before .before .before .if3 .left) (sym (c .before .before .before .before .before .crosses-held .ensures) ∙ c .before .before .before .before .if4 .left) (sym (c .before .before .before .contradicts-held .ensures) ∙ c .before .before .if5 .left) (sym (c .before .is-full .ensures) ∙ c .if6 .taken)
+
+returns-7 : tie.Need-returns-7
+returns-7 c = save-goes (setOf (now (c .before .before .before .before .before .before .before .before .before .before .before .before .before .before .args .img))) _ _ (sym (c .before .before .before .before .before .before .before .before .before .before .before .before .well-formed .ensures) ∙ not-false (c .before .before .before .before .before .before .before .before .before .before .before .before .well-formed .result) (c .before .before .before .before .before .before .before .before .before .before .before .if1 .left)) (sym (c .before .before .before .before .before .before .before .before .before .before .foreign .ensures) ∙ c .before .before .before .before .before .before .before .before .before .if2 .left) (sym (c .before .before .before .before .before .before .before .before .is-held .ensures) ∙ c .before .before .before .before .before .before .before .if3 .left) (sym (c .before .before .before .before .before .crosses-held .ensures) ∙ c .before .before .before .before .if4 .left) (sym (c .before .before .before .contradicts-held .ensures) ∙ c .before .before .if5 .left) (sym (c .before .is-full .ensures) ∙ c .if6 .left)
 
 pub save-number-spec : {M : Type 1} → statement M
 save-number-spec =
@@ -57,8 +61,11 @@ save-number-spec =
     returns-2
     is-held-requires
     returns-3
+    innermost-at-requires
     crosses-held-requires
     returns-4
-    is-full-requires
+    contradicts-held-requires
     returns-5
-    returns-6)
+    is-full-requires
+    returns-6
+    returns-7)
