@@ -54,11 +54,16 @@ static void check_searches(void) {
 static void check_join(void) {
     uint32_t out[20];
     const uint32_t pairs[] = {10, 101, 35, 201, 20, 102, 35, 201, 30, 103, 35, 201, 10, 101, 70, 202, 60, 104, 70, 202};
+    const uint32_t parents[] = {30, 103, 35, 201, 60, 104, 70, 202};
     const size_t n = SASNUVARTH_IMAGE_WORDS;
     struct sasnuvarth_join_answer j = sasnuvarth_join(outer, n, inner, n, 0, SASNUVARTH_BY_ANCESTOR, out, 20);
     expect("join", j.number, SASNUVARTH_DONE);
     expect("join's total", j.total, 5);
     expect_words("join's words", out, pairs, 20);
+    j = sasnuvarth_join(outer, n, inner, n, 0, SASNUVARTH_BY_PARENT, out, 20);
+    expect("join by parent", j.number, SASNUVARTH_DONE);
+    expect("its total, one pair for each d", j.total, 2);
+    expect_words("its words", out, parents, 8);
     expect("join of account 16", sasnuvarth_join(outer, n, inner, n, 16, 0, out, 20).number, SASNUVARTH_ACCOUNT);
 }
 

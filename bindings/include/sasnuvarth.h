@@ -92,7 +92,7 @@ struct sasnuvarth_ancestors_answer
 sasnuvarth_ancestors(const uint32_t *image, size_t image_words, uint32_t account, uint32_t p,
                      uint32_t *out, size_t out_words);
 
-/* The innermost of them whose level is one less. */
+/* The one of them whose level is one less, if there is one: no two that hold p have the same level. */
 struct sasnuvarth_parent_answer
 sasnuvarth_parent(const uint32_t *image, size_t image_words, uint32_t account, uint32_t p, uint32_t level);
 
@@ -107,7 +107,8 @@ sasnuvarth_children(const uint32_t *image, size_t image_words, uint32_t account,
                     uint32_t start, uint32_t end, uint32_t level, uint32_t after,
                     uint32_t *out, size_t out_words);
 
-/* An account's pairs of a region a in outer that holds the start of a region d in inner, by d's start, then a's. */
+/* An account's pairs of a region a in outer that holds the start of a region d in inner, by d's start, then a's. By parent each d stands
+   in one pair at most. */
 struct sasnuvarth_join_answer
 sasnuvarth_join(const uint32_t *outer, size_t outer_words, const uint32_t *inner, size_t inner_words,
                 uint32_t account, uint32_t kind, uint32_t *out, size_t out_words);

@@ -144,7 +144,8 @@ pub fn ancestors(image: &[u32], account: u32, p: u32, out: &mut [u32]) -> Answer
     done(told.number, Ancestors { total: told.total, steps: told.steps })
 }
 
-/// The innermost region that strictly holds p and whose level is one less than the given one.
+/// The region that strictly holds p and whose level is one less than the given one. There is at most one: no two that hold p have the same
+/// level.
 pub fn parent(image: &[u32], account: u32, p: u32, level: u32) -> Answer<Option<Region>> {
     let told = unsafe { raw::sasnuvarth_parent(image.as_ptr(), image.len(), account, p, level) };
     let region = Region { start: told.start, end: told.end, level: told.level, reference: told.reference };
@@ -168,7 +169,7 @@ pub fn children(image: &[u32], account: u32, start: u32, end: u32, level: u32, a
 }
 
 /// The pairs of an account, a of outer and d of inner, by d's start and then a's: four words each (a start, a reference, d start,
-/// d reference), as many as fit. Answers how many there are. Both sets may be one image.
+/// d reference), as many as fit. Answers how many there are. Both sets may be one image. By parent each d stands in one pair at most.
 pub fn join(outer: &[u32], inner: &[u32], account: u32, kind: Kind, out: &mut [u32]) -> Answer<usize> {
     let told = unsafe {
         raw::sasnuvarth_join(

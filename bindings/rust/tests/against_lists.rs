@@ -476,6 +476,9 @@ fn bench_examples() {
     assert_eq!(sasnuvarth::join(&outer, &inner, 0, Kind::Ancestor, out), Ok(8));
     let ds: Vec<u32> = out.chunks_exact(4).take(8).map(|q| q[2]).collect();
     assert_eq!(ds, [25, 25, 35, 35, 35, 55, 70, 70]);
+    assert_eq!(sasnuvarth::join(&outer, &inner, 0, Kind::Parent, out), Ok(3));
+    let once: Vec<(u32, u32)> = out.chunks_exact(4).take(3).map(|q| (q[0], q[2])).collect();
+    assert_eq!(once, [(20, 25), (20, 35), (60, 70)]);
 }
 
 /// A level for each of 255 regions one inside the other; then none is left, around, between or inside.

@@ -15,11 +15,10 @@ use Rattle.words.proofs.Says.{Says, and-says, lt-says, le-says, true-so, false-
 use Rattle.regions.specs.declared.Region.{Region}
 use Rattle.regions.specs.Positions.{crosses, contains}
 use Rattle.regions.specs.Sets.{Set, isAt, heldAt, crossed}
-use Rattle.regions.specs.Calls.{innermost}
 use Rattle.regions.proofs.Means.{contains-says, at-says, crosses-says}
 use Rattle.regions.specs.Sound.{Rising, Nesting}
 use Rattle.regions.proofs.Chain.{Inward, together-inward}
-use Rattle.clashes.specs.Reach.{reaches, reach, endsBy, startsPast}
+use Rattle.clashes.specs.Reach.{reaches, reach, innermost, endsBy, startsPast}
 
 pub reaches-says : (x : ℕ) (r : Region) → Says (reaches x r) ((r .start < x) × (x ≤ r .end))
 unfolding reaches

@@ -16,7 +16,6 @@ use Rattle.words.proofs.Says.{false-so, so-false}
 use Rattle.regions.specs.declared.Region.{Region}
 use Rattle.regions.specs.Positions.{crosses, contradicts, leveled, inside}
 use Rattle.regions.specs.Sets.{Set, crossed, contradicted}
-use Rattle.regions.specs.Calls.{innermost}
 use Rattle.regions.proofs.Means.{Misleveled, contradicts-says, inside-says}
 use Rattle.regions.proofs.Chain.{Deepening, deepens}
 use Rattle.image.specs.Read.{setOf}
@@ -25,7 +24,7 @@ use Rattle.inside.specs.Lists.{upTo}
 use Rattle.tally.specs.declared.Found.{Found}
 use Rattle.tally.specs.declared.Found.the-variants.{Nothing, At}
 use Rattle.tally.specs.Tallies.{foundList}
-use Rattle.clashes.specs.Reach.{reaches, reach, levelFrom}
+use Rattle.clashes.specs.Reach.{reaches, reach, innermost, levelFrom}
 use Rattle.clashes.proofs.Crossing.{Clear, reaches-says, reach-inward, by-last, unfiltered, nests-clear, fail-together, or-none}
 use Rattle.clashes.proofs.Starts.{Ordered, ordered}
 

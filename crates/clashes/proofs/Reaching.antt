@@ -14,7 +14,7 @@ use Rattle.words.proofs.Says.{says-same, says-iff, true-so, so-true, false-so, 
 use Rattle.regions.specs.declared.Region.{Region}
 use Rattle.regions.specs.Positions.{holds}
 use Rattle.regions.specs.Sets.{Set, isAt, heldAt, crossed}
-use Rattle.regions.specs.Calls.{ancestors, innermost}
+use Rattle.regions.specs.Calls.{ancestors}
 use Rattle.regions.proofs.Means.{holds-says, at-says}
 use Rattle.regions.specs.Sound.{Rising}
 use Rattle.image.specs.Read.{setOf}
@@ -22,7 +22,7 @@ use Rattle.image.specs.Valid.{valid}
 use Rattle.tally.specs.declared.Found.{Found}
 use Rattle.tally.specs.declared.Found.the-variants.{Nothing, At}
 use Rattle.tally.specs.Tallies.{foundList, lastFound}
-use Rattle.clashes.specs.Reach.{reaches, reach, endsBy, startsPast}
+use Rattle.clashes.specs.Reach.{reaches, reach, innermost, endsBy, startsPast}
 use Rattle.clashes.proofs.Crossing.{reaches-says, crossing-test}
 use Rattle.clashes.proofs.Starts.{ordered}
 

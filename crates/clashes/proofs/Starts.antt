@@ -14,11 +14,10 @@ use Rattle.regions.specs.declared.Region.{Region}
 use Rattle.regions.specs.Sets.{isAt, startsFrom}
 use Rattle.regions.proofs.Means.{Formed, formed-says, at-says, from-says}
 use Rattle.regions.specs.Sound.{Rising, Nesting, Leveling}
-use Rattle.regions.proofs.Rising.{nesting-says, leveling-says}
 use Rattle.image.specs.Read.{setOf}
 use Rattle.image.specs.Valid.{valid}
 use Rattle.image.proofs.Facts.{valid-facts}
-use Rattle.image.proofs.Sound.{set-rises}
+use Rattle.image.proofs.Sound.{set-rises, set-nests, set-leveled}
 use Rattle.leaves.specs.declared.Cursor.{Cursor}
 use Rattle.leaves.specs.declared.Entry.{Entry}
 use Rattle.leaves.specs.declared.Step.{Step}
@@ -38,12 +37,11 @@ pub record Ordered (rs : List Region) : Type 0 where
 
 pub ordered : (w : List ℕ) → T (valid w) → Ordered (setOf w .regions)
 ordered w t =
-    let f = valid-facts w t in
     record {
       rising = set-rises w t;
-      nesting = nesting-says (setOf w .regions) .yes-so (f .nest);
-      leveling = leveling-says (setOf w .regions) .yes-so (f .level);
-      long = all-mono (λ (r : Region) (m : Formed r). m .order) (setOf w .regions) (all-says formed-says (setOf w .regions) .yes-so (f .formed));
+      nesting = set-nests w t;
+      leveling = set-leveled w t;
+      long = all-mono (λ (r : Region) (m : Formed r). m .order) (setOf w .regions) (all-says formed-says (setOf w .regions) .yes-so (valid-facts w t .formed));
     }
 
 -- the first of some regions, where it has that start

@@ -4,7 +4,7 @@ use Prim.Native.Nat.{ℕ}
 use mathlib.Core.Bool.{Bool, false, _&&_}
 use mathlib.Core.List.{List, [], _∷_}
 use lib.Dec.{leb, ltb}
-use Rattle.words.specs.Lists.{filter}
+use Rattle.words.specs.Lists.{filter, lastOr}
 use Rattle.regions.specs.Sets.{Set}
 use Rattle.regions.specs.declared.Region.{Region}
 
@@ -14,6 +14,11 @@ reaches x r = ltb (r .start) x && leb x (r .end)
 
 abbrev pub reach : ℕ → Set → List Region
 reach x S = filter (reaches x) (S .regions)
+
+-- of regions that lie one in the other, in ascending start: the last, as a list of none or one
+unfoldable pub innermost : List Region → List Region
+innermost [] = []
+innermost (x ∷ xs) = lastOr x xs ∷ []
 
 -- of none or one region: it ends at or before e; it starts behind s; its level is l or above
 unfoldable pub endsBy : ℕ → List Region → Bool

@@ -1,4 +1,5 @@
 -- The set that a valid image means has what every set has: its regions ascend, nest, are leveled as they nest and well formed, no account is above its share, and there are at most 500.
+-- So among the ancestors of a position no two have the same level, in every valid image.
 -- Assumes nothing.
 use Prim.Native.Nat.{ℕ, zero, suc, _<_, _≤_}
 use mathlib.Core.Path.{_≡_, ap}
@@ -14,8 +15,11 @@ use Rattle.words.proofs.Says.{all-says, lt-says, pairs-say}
 use Rattle.regions.specs.Positions.{account, wellFormed}
 use Rattle.regions.specs.Sets.{Set, of, heldBy, shareOf}
 use Rattle.regions.specs.declared.Region.{Region}
-use Rattle.regions.specs.Sound.{Wf, Rising, Sound}
+use Rattle.regions.specs.Calls.{ancestors, parent}
+use Rattle.regions.specs.Sound.{Wf, Rising, Nesting, Leveling, LevelsDiffer, Sound, OneParentEach}
 use Rattle.regions.proofs.Rising.{nesting-says, leveling-says, few}
+use Rattle.regions.proofs.Chain.{levels-differ, parent-one}
+use Rattle.regions.proofs.Parents.{one-parent-each}
 use Rattle.xrtree.specs.Rules.{startsFirst, sharesKept}
 use Rattle.pages.specs.Layout.{rootOf, sharesOf}
 use Rattle.image.specs.Read.{depthOf, setOf}
@@ -23,9 +27,27 @@ use Rattle.image.specs.Valid.{valid}
 use Rattle.image.proofs.Facts.{valid-facts}
 use Rattle.image.proofs.Small.{Small, small-page, small-regions}
 
-pub set-rises : (w : List ℕ) → T (valid w) → Rising (setOf w .regions)
-unfolding setOf startsFirst
-set-rises w v = pairs-say (λ (x y : Region). lt-says (x .start) (y .start)) (setOf w .regions) .yes-so (valid-facts w v .ascend)
+module _ (w : List ℕ) (v : T (valid w)) where
+  pub set-rises : Rising (setOf w .regions)
+  unfolding setOf startsFirst
+  set-rises = pairs-say (λ (x y : Region). lt-says (x .start) (y .start)) (setOf w .regions) .yes-so (valid-facts w v .ascend)
+
+  pub set-nests : Nesting (setOf w .regions)
+  set-nests = nesting-says (setOf w .regions) .yes-so (valid-facts w v .nest)
+
+  pub set-leveled : Leveling (setOf w .regions)
+  set-leveled = leveling-says (setOf w .regions) .yes-so (valid-facts w v .level)
+
+  -- BY LEVELS (change request C-16): no two ancestors of a position have the same, so that a position and a level have at most one parent
+  pub valid-levels-differ : (p : ℕ) → LevelsDiffer (ancestors p (setOf w))
+  valid-levels-differ p = levels-differ (setOf w) p set-rises set-nests set-leveled
+
+  pub valid-parent-one : (p l : ℕ) → length (parent p l (setOf w)) ≤ 1
+  valid-parent-one p l = parent-one (setOf w) p set-rises set-nests set-leveled l
+
+-- and a d stands in at most one pair by parent and child
+pub valid-one-parent-each : (x y : List ℕ) → T (valid x) → T (valid y) → (a : ℕ) → OneParentEach (setOf x) (setOf y) a
+valid-one-parent-each x y u v a = one-parent-each (setOf x) (set-rises x u) (set-nests x u) (set-leveled x u) a (setOf y) (set-rises y v)
 
 kept-below : (n : ℕ) (S : Set) → T (sharesKept n S) → (a : ℕ) → a < n → heldBy a S ≤ shareOf a S
 unfolding sharesKept
@@ -50,8 +72,8 @@ module _ (w : List ℕ) (small : Small w) (v : T (valid w)) where
       record {
         formed = all-says {p = wellFormed} {M = Wf} (λ r. record { yes-so = of-T (wellFormed r); so-yes = λ e. T-of e }) (setOf w .regions) .yes-so (f .formed);
         rising = set-rises w v;
-        nesting = nesting-says (setOf w .regions) .yes-so (f .nest);
-        leveling = leveling-says (setOf w .regions) .yes-so (f .level);
+        nesting = set-nests w v;
+        leveling = set-leveled w v;
         within = λ a. by-test (ltb a 16) (λ t. kept-below 16 (setOf w) (f .kept) a (lt-of a 16 t)) (λ t. omega (arith, held-none a (nlt-of a 16 t)));
         shared = leb→le _ 500 (f .sums);
       }

@@ -3,7 +3,7 @@
 -- Assumes nothing.
 use Prim.Native.Nat.{ℕ, _+_, _*_, _<_, min}
 use mathlib.Core.Path.{_≡_, refl, sym, ap, ap₂, _∙_, subst}
-use mathlib.Core.Logic.{_⊎_, ⊎-elim, inl, inr}
+use mathlib.Core.Logic.{⊎-elim, inl, inr}
 use mathlib.Core.Bool.{Bool, true, false, cond, true≢false, false≢true}
 use mathlib.Core.List.{List, [], _∷_, _++_, flatMap}
 use lib.Dec.{eqb}
@@ -13,7 +13,7 @@ use native.Mathlib.Omega.{arith}
 use native.Mathlib.Decide.{decLt}
 use Rattle.words.specs.Lists.{filter, some, All, In, lastOr}
 use Rattle.words.proofs.Tests.{T-of, of-T, off-T, and-left, and-right, or-false-left, or-false-right, not-true, by-test, eq-of, ne-of, eq-yes, eq-no, either}
-use Rattle.words.proofs.Listed.{all-mono, all-append, all-left, all-right, all-take, all-let, in-all, pairs-across, pairs-append, filter-none, filter-yes, filter-no, flat-append, all-end}
+use Rattle.words.proofs.Listed.{all-mono, all-append, all-left, all-right, all-take, all-let, in-all, in-filter, in-append, pairs-across, pairs-append, filter-none, filter-yes, filter-no, flat-append, all-end}
 use Rattle.words.proofs.Says.{and-says, eq-says, true-so, so-true}
 use Rattle.regions.specs.declared.Kind.{Kind}
 use Rattle.regions.specs.declared.Mark.{Mark}
@@ -129,16 +129,6 @@ rise so si i o (c ∷ cs) s g e h =
     join-rise (o .mark) (handedBy i c s) (handedIn i cs (next c s)) (d .0) (d .1) (r .0) (r .1)
 
 -- EXACTLY ONCE
-in-filter : (f : Pair → Bool) (q : Pair) (ps : List Pair) → In q ps → f q ≡ true → In q (filter f ps)
-in-filter f q [] h e = absurd h
-in-filter f q (p ∷ ps) (inl h) e = rw (filter-yes f p ps (ap f (sym h) ∙ e)) (inl h)
-in-filter f q (p ∷ ps) (inr h) e = by-test (f p) (λ t. rw (filter-yes f p ps t) (inr (in-filter f q ps h e))) (λ t. rw (filter-no f p ps t) (in-filter f q ps h e))
-
-in-append : (q : Pair) (ps rs : List Pair) → In q (ps ++ rs) → In q ps ⊎ In q rs
-in-append q [] rs h = inr h
-in-append q (p ∷ ps) rs (inl h) = inl (inl h)
-in-append q (p ∷ ps) rs (inr h) = ⊎-elim (λ u. inl (inr u)) (λ u. inr u) (in-append q ps rs h)
-
 same-key : (p q : Pair) → isPair q p ≡ true → (q .a .start ≡ p .a .start) × (q .d .start ≡ p .d .start)
 unfolding isPair
 same-key p q e = true-so (and-says (eq-says (q .a .start) (p .a .start)) (eq-says (q .d .start) (p .d .start))) e

@@ -63,7 +63,7 @@ pub fn find_ancestors(img: &[u32], account: u32, p: u32, out: &mut [u32]) -> Anc
     }
 }
 
-// The innermost ancestor of p whose level is one less than the given one, or none.
+// The ancestor of p whose level is one less than the given one, or none: there is never a second one.
 pub fn find_parent(img: &[u32], account: u32, p: u32, level: u32) -> Parent
     ensures { λ r. ⌜ FindsParent (now (img .entry)) account p level r ⌝ }
 {

@@ -5,18 +5,18 @@ use mathlib.Core.Path.{_≡_, refl}
 use mathlib.Core.Bool.{true, false}
 use mathlib.Core.List.{[], _∷_, map}
 use lib.ListN.{replicate}
-use Rattle.words.specs.Lists.{filter, some, all, lastOr, firstNo}
+use Rattle.words.specs.Lists.{filter, some, all, firstNo}
 use Rattle.regions.specs.declared.Kind.the-variants.{Ancestor}
 use Rattle.regions.specs.declared.Mark.the-variants.{Fresh}
 use Rattle.regions.specs.Positions.{wellBound, wellFormed, endsBefore, contains, nested, crosses, misleveled, contradicts, holds, inside, isAbove}
 use Rattle.regions.specs.Sets.{of, isAt, startsBehind}
 use Rattle.regions.specs.Numbers.{DONE, LIMIT, LEVEL}
-use Rattle.regions.specs.Calls.{foreign, saveNo, pointNo, innermost, boundsNo}
+use Rattle.regions.specs.Calls.{foreign, saveNo, pointNo, boundsNo}
 use Rattle.regions.specs.Desk.{markFits, stateFits, seatFits, deskFits, stateOpen, closed, openAt, limitAsked, openSeatNo}
 use Rattle.regions.specs.Bench.{region, benchSet, ask, questions, answers}
 
 pub bench : map ask questions ≡ answers
-unfolding filter some lastOr firstNo wellBound wellFormed endsBefore contains nested crosses misleveled contradicts holds inside isAbove of isAt startsBehind foreign saveNo pointNo innermost boundsNo ask
+unfolding filter some firstNo wellBound wellFormed endsBefore contains nested crosses misleveled contradicts holds inside isAbove of isAt startsBehind foreign saveNo pointNo boundsNo ask
 bench = refl
 
 -- levels: around all four none is left to take, since 1 is the least; within (30, 40), which has 3, a 3 contradicts and a 4 does not; and around (20, 50), which has 2, a 2 does

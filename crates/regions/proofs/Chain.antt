@@ -1,22 +1,23 @@
--- Ascending starts among ancestors are "outermost first": each contains all behind it, and has a smaller level. So the parent found is the innermost.
+-- Ascending starts among ancestors are "outermost first": each contains all behind it, and has a smaller level. So no two have the same level, and a position and a level
+-- have at most one parent.
 -- Assumes nothing.
 use Prim.Native.Nat.{ℕ, _+_, _<_, _≤_}
-use mathlib.Core.Path.{_≡_, refl, ap, _∙_}
+use mathlib.Core.Path.{_≡_}
 use mathlib.Core.Bool.{Bool, true}
-use mathlib.Core.List.{List, [], _∷_, _++_}
+use mathlib.Core.List.{List, [], _∷_}
 use lib.Dec.{T}
 use lib.ListN.{length}
 use native.Mathlib.Omega.{arith}
-use Rattle.words.specs.Lists.{filter, some, All, Pairs}
-use Rattle.words.proofs.Listed.{all-mono, all-kept, pairs-filter, pairs-kept, pairs-across, last-split, pairs-two}
+use Rattle.words.specs.Lists.{filter, All, Pairs}
+use Rattle.words.proofs.Listed.{all-mono, all-kept, pairs-mono, pairs-filter, pairs-kept, none-two, pairs-two}
 use Rattle.words.proofs.Says.{true-so, so-true}
 use Rattle.regions.specs.declared.Region.{Region}
 use Rattle.regions.specs.Limits.{mostAround}
 use Rattle.regions.specs.Positions.{nested, contains, leveled, holds, isAbove}
 use Rattle.regions.specs.Sets.{Set}
-use Rattle.regions.specs.Calls.{ancestors, innermost, parent}
-use Rattle.regions.specs.Sound.{Wf, Rising, Nesting, Leveling, Sound}
-use Rattle.regions.proofs.Means.{holds-says, contains-says, nested-in-turn, formed-says, leveled-in-turn}
+use Rattle.regions.specs.Calls.{ancestors, parent}
+use Rattle.regions.specs.Sound.{Wf, Rising, Nesting, Leveling, LevelsDiffer, Sound}
+use Rattle.regions.proofs.Means.{holds-says, above-says, contains-says, nested-in-turn, formed-says, leveled-in-turn}
 
 abbrev pub Inward : List Region → Type 0
 Inward rs = Pairs (λ x y. contains x y ≡ true) rs
@@ -50,37 +51,25 @@ deep-few n (x ∷ xs) l a w h =
     omega (arith, a .0)
 
 -- of a set, those that lie one in the other
-module _ (S : Set) (g : Sound S) (q : Region → Bool) (h : Inward (filter q (S .regions))) where
-  pub around-deepens : Deepening (filter q (S .regions))
-  around-deepens = deepens (filter q (S .regions)) h (pairs-kept (λ x y. leveled x y ≡ true) q (S .regions) (g .leveling))
+pub around-few : (S : Set) → Sound S → (q : Region → Bool) → Inward (filter q (S .regions)) → length (filter q (S .regions)) ≤ mostAround
+around-few S g q h =
+    let w = all-kept Wf q (S .regions) (g .formed) in
+    let l = all-mono {Q = λ x. 0 < x .level} (λ x f. let m = true-so (formed-says x) f .low in omega arith) (filter q (S .regions)) w in
+    let d = deepens (filter q (S .regions)) h (pairs-kept (λ x y. leveled x y ≡ true) q (S .regions) (g .leveling)) in
+    omega (arith, deep-few 0 (filter q (S .regions)) (omega arith) l w d)
 
-  pub around-few : length (filter q (S .regions)) ≤ mostAround
-  around-few =
-      let w = all-kept Wf q (S .regions) (g .formed) in
-      let l = all-mono {Q = λ x. 0 < x .level} (λ x f. let m = true-so (formed-says x) f .low in omega arith) (filter q (S .regions)) w in
-      omega (arith, deep-few 0 (filter q (S .regions)) (omega arith) l w around-deepens)
+-- THE ANCESTORS OF A POSITION, of regions that ascend, nest and are leveled as they nest
+module _ (S : Set) (p : ℕ) (h : Rising (S .regions)) (k : Nesting (S .regions)) (l : Leveling (S .regions)) where
+  pub levels-rise : Deepening (ancestors p S)
+  levels-rise = deepens (ancestors p S) (ancestors-inward S p h k) (pairs-kept (λ x y. leveled x y ≡ true) (holds p) (S .regions) l)
 
--- the ancestors of a position: no two have the same level
-pub levels-rise : (S : Set) (p : ℕ) → Sound S → Deepening (ancestors p S)
-levels-rise S p g = around-deepens S g (holds p) (ancestors-inward S p (g .rising) (g .nesting))
+  -- hence no level twice
+  pub levels-differ : LevelsDiffer (ancestors p S)
+  levels-differ = pairs-mono (λ x y m e. omega arith) (ancestors p S) levels-rise
 
--- one is found exactly where there is one
-pub found-one : (xs : List Region) → some (innermost xs) ≡ some xs
-unfolding some innermost
-found-one [] = refl
-found-one (x ∷ xs) = refl
+  -- and a test that only one level passes lets at most one through, as a parent's does
+  pub one-of-level : (v : ℕ) (q : Region → Bool) → ((x : Region) → T (q x) → x .level + 1 ≡ v) → length (filter q (ancestors p S)) ≤ 1
+  one-of-level v q f = none-two (filter q (ancestors p S)) (pairs-filter {S = λ x y. ⊥} q (λ x y a b m. m (omega (arith, f x a, f y b))) (ancestors p S) levels-differ)
 
--- what is found is the last
-pub innermost-last : (xs : List Region) (r : Region) → innermost xs ≡ r ∷ [] → (us : List Region) × (xs ≡ us ++ r ∷ [])
-unfolding innermost
-innermost-last [] r e = let z : _≡_ {A = ℕ} 0 1 = cc in absurd (omega arith)
-innermost-last (x ∷ xs) r e = let s = last-split x xs in (s .0, s .1 ∙ ap (λ l. s .0 ++ l) e)
-
--- the parent found lies in every other ancestor that could be it
-pub parent-innermost : (S : Set) (p l : ℕ) (r : Region) → Rising (S .regions) → Nesting (S .regions) → parent p l S ≡ r ∷ []
-    → (us : List Region) × (filter (isAbove l) (ancestors p S) ≡ us ++ r ∷ []) × All (λ x. contains x r ≡ true) us
-parent-innermost S p l r h k e =
-    let s = innermost-last (filter (isAbove l) (ancestors p S)) r e in
-    let c = pairs-kept (λ x y. contains x y ≡ true) (isAbove l) (ancestors p S) (ancestors-inward S p h k) in
-    let d : Inward (s .0 ++ r ∷ []) = rw (s .1) at c in
-    (s .0, s .1, all-mono {Q = λ x. contains x r ≡ true} (λ x m. m .0) (s .0) (pairs-across (λ x y. contains x y ≡ true) (s .0) (r ∷ []) d))
+  pub parent-one : (v : ℕ) → length (parent p v S) ≤ 1
+  parent-one v = one-of-level v (isAbove v) (λ x t. above-says v x .yes-so t)

@@ -16,7 +16,7 @@ use Rattle.regions.specs.declared.Kind.{Kind}
 use Rattle.regions.specs.declared.Kind.the-variants.{Ancestor, Parent}
 use Rattle.regions.specs.declared.Mark.{Mark}
 use Rattle.regions.specs.declared.Mark.the-variants.{Fresh, Last}
-use Rattle.regions.specs.Positions.{holds, isAbove}
+use Rattle.regions.specs.Positions.{holds}
 use Rattle.regions.specs.Sets.{Set, of}
 use Rattle.regions.specs.Calls.{Pair, pairsWith, pairOf, pairsOf, joined}
 use Rattle.regions.specs.Desk.{later, isPast, past, markBehind, markFits}
@@ -32,7 +32,7 @@ pub record Joins (a : ℕ) (k : Kind) (q : Pair) : Type 0 where
 pub pairs-hold : (k : Kind) (d a : Region) → pairsWith k d a ≡ true → holds (d .start) a ≡ true
 unfolding pairsWith
 pairs-hold Ancestor d a h = h
-pairs-hold Parent d a h = of-T _ (and-left (holds (d .start) a) (isAbove (d .level) a) (T-of h))
+pairs-hold Parent d a h = of-T _ (and-left (holds (d .start) a) _ (T-of h))
 
 pub joined-joins : (X Y : Set) (a : ℕ) (k : Kind) → All (Joins a k) (joined X Y a k)
 unfolding joined pairsOf
@@ -85,24 +85,34 @@ of-one d (x ∷ xs) h = (
   of-one d xs (h .1),
 )
 
--- the pairs of one d ascend with a, those of a later d come later
-pairs-ascend : (k : Kind) (xs ds : List Region) → Rising xs → Rising ds → Ascending (flatMap (pairsOf k xs) ds)
+-- d after d: what holds between every two pairs of one d, and from each pair of a d to each of a later one, holds between every two
+in-turn : (R : Pair → Pair → Type 0) (k : Kind) (xs ds : List Region) → ((d : Region) → Pairs R (pairsOf k xs d))
+    → ((d e x y : Region) → d .start < e .start → R (pairOf d x) (pairOf e y)) → Rising ds → Pairs R (flatMap (pairsOf k xs) ds)
 unfolding flatMap pairsOf
-pairs-ascend k xs [] h g = tt
-pairs-ascend k xs (d ∷ ds) h g =
-    pairs-append Then (pairsOf k xs d) (flatMap (pairsOf k xs) ds)
-    (of-one d (filter (pairsWith k d) xs) (pairs-kept (λ x y. x .start < y .start) (pairsWith k d) xs h)) (pairs-ascend k xs ds h (g .1))
-    (all-map (λ p. All (Then p) (flatMap (pairsOf k xs) ds)) (pairOf d) (filter (pairsWith k d) xs)
-    (all-every (λ x. all-flat (Then (pairOf d x)) (pairsOf k xs) ds
-    (all-mono {Q = λ e. All (Then (pairOf d x)) (pairsOf k xs e)}
-    (λ e l. all-map (Then (pairOf d x)) (pairOf e) (filter (pairsWith k e) xs) (all-every (λ y. so-true (later-says (x .start) (d .start) (pairOf e y)) (inl l)) (filter (pairsWith k e) xs)))
+in-turn R k xs [] one on g = tt
+in-turn R k xs (d ∷ ds) one on g =
+    pairs-append R (pairsOf k xs d) (flatMap (pairsOf k xs) ds) (one d) (in-turn R k xs ds one on (g .1))
+    (all-map (λ p. All (R p) (flatMap (pairsOf k xs) ds)) (pairOf d) (filter (pairsWith k d) xs)
+    (all-every (λ x. all-flat (R (pairOf d x)) (pairsOf k xs) ds
+    (all-mono {Q = λ e. All (R (pairOf d x)) (pairsOf k xs e)}
+    (λ e l. all-map (R (pairOf d x)) (pairOf e) (filter (pairsWith k e) xs) (all-every (λ y. on d e x y l) (filter (pairsWith k e) xs)))
     ds (g .0))) (filter (pairsWith k d) xs)))
 
-pub joined-ascends : (X Y : Set) (a : ℕ) (k : Kind) → Rising (X .regions) → Rising (Y .regions) → Ascending (joined X Y a k)
+pub joined-in-turn : (R : Pair → Pair → Type 0) (X Y : Set) (a : ℕ) (k : Kind) → ((d : Region) → Pairs R (pairsOf k (filter (of a) (X .regions)) d))
+    → ((d e x y : Region) → d .start < e .start → R (pairOf d x) (pairOf e y)) → Rising (Y .regions) → Pairs R (joined X Y a k)
 unfolding joined
+joined-in-turn R X Y a k one on h =
+    in-turn R k (filter (of a) (X .regions)) (filter (of a) (Y .regions)) one on (pairs-kept (λ x y. x .start < y .start) (of a) (Y .regions) h)
+
+-- the pairs of one d ascend with a, those of a later d come later
+pub joined-ascends : (X Y : Set) (a : ℕ) (k : Kind) → Rising (X .regions) → Rising (Y .regions) → Ascending (joined X Y a k)
+unfolding pairsOf
 joined-ascends X Y a k g h =
-    pairs-ascend k (filter (of a) (X .regions)) (filter (of a) (Y .regions))
-    (pairs-kept (λ x y. x .start < y .start) (of a) (X .regions) g) (pairs-kept (λ x y. x .start < y .start) (of a) (Y .regions) h)
+    let xs = filter (of a) (X .regions) in
+    let up = pairs-kept (λ x y. x .start < y .start) (of a) (X .regions) g in
+    joined-in-turn Then X Y a k
+    (λ d. of-one d (filter (pairsWith k d) xs) (pairs-kept (λ x y. x .start < y .start) (pairsWith k d) xs up))
+    (λ d e x y l. so-true (later-says (x .start) (d .start) (pairOf e y)) (inl l)) h
 
 -- each pair of starts stands once
 pub ascending-once : (ps : List Pair) → Ascending ps → Pairs (λ p q. (p .a .start ≡ q .a .start) × (p .d .start ≡ q .d .start) → ⊥) ps

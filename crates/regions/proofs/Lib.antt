@@ -6,6 +6,7 @@ pub mod Done
 pub mod Rising
 pub mod Chain
 pub mod Joined
+pub mod Parents
 pub mod Fits
 pub mod Seats
 pub mod Shares

@@ -19,7 +19,7 @@ use Rattle.regions.specs.Positions.{document, account, wellBound, wellFo
 use Rattle.regions.specs.Sets.{Set, of, only, heldBy, shareOf, isAt, heldAt, crossed, contradicted, startsBefore, startsBehind, saved, isNotAt, deleted}
 use Rattle.regions.specs.Numbers.{REGION, ACCOUNT, HELD, CROSS, LEVEL, SHARE, ABSENT}
 use Rattle.regions.specs.Sound.{Wf}
-use Rattle.regions.specs.Calls.{foreign, saveNo, deleteNo, ancestors, innermost, parent, descendants, children, pairsOf, joined}
+use Rattle.regions.specs.Calls.{foreign, saveNo, deleteNo, ancestors, parent, descendants, children, pairsOf, joined}
 use Rattle.regions.proofs.Means.{Formed, formed-says, bound-says, foreign-says, crosses-says, Misleveled, contradicts-says, holds-says, inside-says, of-says, at-says, before-says, behind-says}
 
 -- POSITIONS AND REGIONS OF ONE ACCOUNT
@@ -101,7 +101,7 @@ ancestors-local S a p hs e =
     (filter-within (holds p) (of (account p)) (S .regions) (all-mono (λ x hx. holds-account p x hx) (S .regions) hs))
 
 pub parent-local : (S : Set) (a p l : ℕ) → All Wf (S .regions) → account p ≡ a → parent p l S ≡ parent p l (only a S)
-parent-local S a p l hs e = ap (λ xs. innermost (filter (isAbove l) xs)) (ancestors-local S a p hs e)
+parent-local S a p l hs e = ap (filter (isAbove l)) (ancestors-local S a p hs e)
 
 pub descendants-local : (S : Set) (a s e after : ℕ) → wellBound s e ≡ true → account s ≡ a → descendants s e after S ≡ descendants s e after (only a S)
 descendants-local S a s e after hb h =

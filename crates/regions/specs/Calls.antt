@@ -6,7 +6,7 @@ use mathlib.Core.List.{List, [], _∷_, map, flatMap}
 use lib.Dec.{leb, ltb, eqb}
 use lib.ListN.{length, take, drop}
 use lib.Seq.{sets}
-use Rattle.words.specs.Lists.{filter, some, lastOr, firstNo, sum}
+use Rattle.words.specs.Lists.{filter, some, firstNo, sum}
 use Rattle.regions.specs.Limits.{lastAccount, mostRegions}
 use Rattle.regions.specs.Positions.{account, wellBound, wellFormed, holds, inside, isAbove, isBelow}
 use Rattle.regions.specs.Sets.{Set, of, heldBy, shareOf, heldAt, crossed, contradicted, startsBehind}
@@ -64,13 +64,9 @@ pointNo a p = firstNo ((foreign a p, ACCOUNT) ∷ [])
 abbrev pub ancestors : ℕ → Set → List Region
 ancestors p S = filter (holds p) (S .regions)
 
--- none or one: of several the innermost
-unfoldable pub innermost : List Region → List Region
-innermost [] = []
-innermost (x ∷ xs) = lastOr x xs ∷ []
-
+-- those of them that have the level one less: at most one, since no two ancestors have the same level (change request C-16)
 abbrev pub parent : ℕ → ℕ → Set → List Region
-parent p l S = innermost (filter (isAbove l) (ancestors p S))
+parent p l S = filter (isAbove l) (ancestors p S)
 
 -- DESCENDANT and CHILD SEARCH, by bounds; "after" is any number
 unfoldable pub boundsNo : ℕ → ℕ → ℕ → ℕ

@@ -8,9 +8,10 @@ use Rattle.words.specs.Lists.{All, Pairs, sum}
 use Rattle.regions.specs.Limits.{mostRegions}
 use Rattle.regions.specs.Positions.{wellFormed, nested, leveled}
 use Rattle.regions.specs.Sets.{Set, heldBy, shareOf}
-use Rattle.regions.specs.Calls.{Pair}
+use Rattle.regions.specs.Calls.{Pair, joined}
 use Rattle.regions.specs.Desk.{later}
 use Rattle.regions.specs.declared.Region.{Region}
+use Rattle.regions.specs.declared.Kind.the-variants.{Parent}
 
 -- a region is well formed; starts ascend strictly; every two regions nest rightly; their levels say the same
 abbrev pub Wf : Region → Type 0
@@ -34,9 +35,17 @@ pub record Sound (S : Set) : Type 0 where
   pub within : (a : ℕ) → heldBy a S ≤ shareOf a S
   pub shared : sum (S .shares) ≤ mostRegions
 
+-- NO TWO OF THE SAME LEVEL (change request C-16): so it is among the ancestors of any position
+abbrev pub LevelsDiffer : List Region → Type 0
+LevelsDiffer rs = Pairs (λ x y. x .level ≡ y .level → ⊥) rs
+
 -- THE JOIN'S ORDER: q comes later than p; each pair later than all before it
 abbrev pub Then : Pair → Pair → Type 0
 Then p q = later (p .a .start) (p .d .start) q ≡ true
 
 abbrev pub Ascending : List Pair → Type 0
 Ascending ps = Pairs Then ps
+
+-- THE JOIN BY PARENT AND CHILD (change request C-16): from pair to pair d's start rises, so that no d stands in two
+abbrev pub OneParentEach : Set → Set → ℕ → Type 0
+OneParentEach X Y a = Pairs (λ p q. p .d .start < q .d .start) (joined X Y a Parent)

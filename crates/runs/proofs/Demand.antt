@@ -8,15 +8,17 @@ use mathlib.Core.Bool.{Bool, true, false}
 use mathlib.Core.List.{List, [], _++_}
 use lib.ListN.{length, drop, getD}
 use Rattle.words.specs.Lists.{filter, In}
+use Rattle.words.proofs.Tests.{T-of}
 use Rattle.regions.specs.declared.Region.{Region}
 use Rattle.regions.specs.declared.Kind.{Kind}
 use Rattle.regions.specs.declared.Open.{Open}
 use Rattle.regions.specs.Positions.{account, wellFormed}
 use Rattle.regions.specs.Sets.{Set, isAt, only, heldAt, crossed, contradicted, heldBy}
-use Rattle.regions.specs.Calls.{Pair, joined}
+use Rattle.regions.specs.Calls.{ancestors, parent, Pair, joined}
 use Rattle.regions.specs.Desk.{limitAsked}
-use Rattle.regions.specs.Sound.{Sound, Ascending}
+use Rattle.regions.specs.Sound.{Sound, LevelsDiffer, Ascending, OneParentEach}
 use Rattle.image.specs.Read.{setOf as setIn}
+use Rattle.image.proofs.Sound.{valid-levels-differ, valid-parent-one, valid-one-parent-each}
 use Rattle.plainruns.specs.Calls.{Which, sharesGiven, Fair, Call, Shown, Answer, Step, Done, callsOf, shareGiven, byAccount, leftOut, Same, Agree, left, Served, Passed, next}
 use Rattle.plainruns.specs.Calls.Which.{outer, inner}
 use Rattle.plainruns.specs.Calls.Call.{save, round, openSeat}
@@ -55,6 +57,19 @@ demand-sound so si {l = l} r run inner = theorem-sound so si (begins so si l r .
 pub demand-few : (so si : List ℕ) {l m : Lent} {ds : List Done} → Ready so si l → Runs l ds m → (w : Which) → length (setIn (imageOf w m) .regions) ≤ 500
 demand-few so si {l = l} r run outer = theorem-few so si (begins so si l r .0) (meant so si r run .1) outer
 demand-few so si {l = l} r run inner = theorem-few so si (begins so si l r .0) (meant so si r run .1) inner
+
+-- BY LEVELS (change request C-16): no two ancestors of a position have the same, so that a position and a level have at most one parent, and a join by parent and child
+-- (a seat's list of that kind is such a join's) pairs no inner region twice
+pub demand-levels-differ : (so si : List ℕ) {l m : Lent} {ds : List Done} → Ready so si l → Runs l ds m → (w : Which) (p : ℕ) → LevelsDiffer (ancestors p (setIn (imageOf w m)))
+demand-levels-differ so si {m = m} r run w p = valid-levels-differ (imageOf w m) (T-of (demand-valid so si r run w)) p
+
+pub demand-parent-one : (so si : List ℕ) {l m : Lent} {ds : List Done} → Ready so si l → Runs l ds m → (w : Which) (p v : ℕ) → length (parent p v (setIn (imageOf w m))) ≤ 1
+demand-parent-one so si {m = m} r run w p v = valid-parent-one (imageOf w m) (T-of (demand-valid so si r run w)) p v
+
+pub demand-one-parent-each : (so si : List ℕ) {l m : Lent} {ds : List Done} → Ready so si l → Runs l ds m → (x y : Which) (a : ℕ)
+    → OneParentEach (setIn (imageOf x m)) (setIn (imageOf y m)) a
+demand-one-parent-each so si {m = m} r run x y a =
+    valid-one-parent-each (imageOf x m) (imageOf y m) (T-of (demand-valid so si r run x)) (T-of (demand-valid so si r run y)) a
 
 -- the last call of a run, over sets
 last-step : (so si : List ℕ) {l₀ l m : Lent} {ds : List Done} {c : Call} {x : Answer} (r : Ready so si l₀) (run : Runs l₀ ds l) → Does l c x m

@@ -1,35 +1,37 @@
--- Demand 2 of a search: from the call's own record, where its number is 0, the regions listed are exactly those meant, each once, in order; a parent is the innermost.
+-- Demand 2 of a search: from the call's own record, where its number is 0, the regions listed are exactly those meant, each once, in order; a parent is the one that there is; and a join by
+-- parent and child pairs no inner region twice.
 -- Assumes nothing.
-use Prim.Native.Nat.{ℕ, _+_, _<_}
+use Prim.Native.Nat.{ℕ, _+_, _<_, _≤_}
 use mathlib.Core.Path.{_≡_, refl, sym, ap, _∙_, subst}
-use mathlib.Core.Logic.{_↔_, _⊎_, inl, inr, ⊎-elim}
-use mathlib.Core.Bool.{Bool, true}
-use mathlib.Core.List.{List, [], _∷_, _++_}
+use mathlib.Core.Logic.{_↔_, inl}
+use mathlib.Core.Bool.{Bool, true, _&&_}
+use mathlib.Core.List.{List, [], _∷_}
 use lib.Dec.{T}
 use lib.ListN.{length}
 use native.Mathlib.Omega.{arith}
-use Rattle.words.specs.Lists.{filter, Pairs, All, In}
-use Rattle.words.proofs.Tests.{T-of}
-use Rattle.words.proofs.Listed.{pairs-mono, pairs-kept, in-all, in-kept, in-let, in-filter, in-append, in-right, some-none, none-some}
+use Rattle.words.specs.Lists.{filter, Pairs, In}
+use Rattle.words.proofs.Tests.{T-of, and-left, and-right}
+use Rattle.words.proofs.Listed.{pairs-mono, pairs-kept, in-kept, in-let, in-filter}
 use Rattle.words.proofs.Says.{Says, true-so, so-true}
 use Rattle.regions.specs.Numbers.{imageFirst}
 use Rattle.regions.specs.declared.Region.{Region}
-use Rattle.regions.specs.Positions.{contains, holds, inside, isAbove, isBelow}
-use Rattle.regions.specs.Sets.{Set, startsBehind}
-use Rattle.regions.specs.Limits.{regionWidth}
-use Rattle.regions.specs.Calls.{regionWords, written, countWritten, moreRemain, pointNo, boundsNo, ancestors, parent, descendants, children}
-use Rattle.regions.specs.Sound.{Rising, Nesting}
+use Rattle.regions.specs.Positions.{holds, inside, isAbove, isBelow}
+use Rattle.regions.specs.Sets.{Set, heldBy, startsBehind}
+use Rattle.regions.specs.Limits.{regionWidth, pairWidth}
+use Rattle.regions.specs.Calls.{regionWords, written, countWritten, moreRemain, pointNo, boundsNo, ancestors, parent, descendants, children, pairWords, joinNo, joined}
+use Rattle.regions.specs.declared.Kind.the-variants.{Parent as ByParent}
+use Rattle.regions.specs.Sound.{Rising, Nesting, OneParentEach}
 use Rattle.regions.proofs.Means.{holds-says, inside-says, above-says, below-says, behind-says, contains-says}
-use Rattle.regions.proofs.Rising.{nesting-says}
-use Rattle.regions.proofs.Chain.{ancestors-inward, found-one, parent-innermost}
+use Rattle.regions.proofs.Chain.{ancestors-inward}
+use Rattle.regions.proofs.Parents.{parents-few}
 use Rattle.image.specs.Read.{setOf}
 use Rattle.image.specs.Valid.{valid}
-use Rattle.image.proofs.Facts.{valid-facts}
-use Rattle.image.proofs.Sound.{set-rises}
+use Rattle.image.proofs.Sound.{set-rises, set-nests, set-leveled, valid-one-parent-each}
 use Rattle.queries.specs.declared.Parent.{Parent}
 use Rattle.queries.specs.Searches.{FindsAncestors, parentNumber, parentFound, FindsParent, FindsDescendants, FindsChildren}
+use Rattle.queries.specs.Joins.{JoinsSets}
 use Rattle.queries.proofs.Answers.{image-right}
-use Rattle.runs.specs.Exact.{AncestorOf, ParentOf, DescendantIn, ChildIn, OuterFirst, SoonerFirst, Exactly, Innermost}
+use Rattle.runs.specs.Exact.{AncestorOf, ParentOf, DescendantIn, ChildIn, OuterFirst, SoonerFirst, Exactly, TheOne}
 
 -- A FILTER lists what passes its test; of regions that ascend each is another one
 pub filtered : (p : Region → Bool) (M : Region → Type 0) (rs : List Region) → ((r : Region) → Says (p r) (M r)) → (r : Region) → In r (filter p rs) ↔ (In r rs × M r)
@@ -84,18 +86,12 @@ module _ (w : List ℕ) (n : ℕ) (z : n ≡ 0) where
   pub image-valid : (own : ℕ) → n ≡ imageFirst (valid w) own → T (valid w)
   image-valid own e = T-of (image-right (valid w) own (sym z ∙ e))
 
-  pub rises : T (valid w) → Rising (setOf w .regions)
-  rises v = set-rises w v
-
-  pub nests : T (valid w) → Nesting (setOf w .regions)
-  nests v = nesting-says (setOf w .regions) .yes-so (valid-facts w v .nest)
-
   -- all of them are counted, and as many as fit are written, from the first on
   pub ancestors-listed : (a p : ℕ) (out out′ : List ℕ) (total made : ℕ) → FindsAncestors w a p out n total made out′
       → (rs : List Region) × Exactly (setOf w) (AncestorOf p) OuterFirst rs × (total ≡ length rs) × (out′ ≡ written regionWords regionWidth out rs)
   ancestors-listed a p out out′ total made f =
       let v = image-valid (pointNo a p) (f .number-is) in
-      (ancestors p (setOf w), ancestors-exactly (setOf w) p (rises v) (nests v), f .done z .0, f .done z .2)
+      (ancestors p (setOf w), ancestors-exactly (setOf w) p (set-rises w v) (set-nests w v), f .done z .0, f .done z .2)
 
   -- those that fit are counted and written, and whether more remain is told
   pub descendants-listed : (a s e after : ℕ) (out out′ : List ℕ) (count : ℕ) (more : Bool) → FindsDescendants w a s e after out n count more out′
@@ -103,43 +99,52 @@ module _ (w : List ℕ) (n : ℕ) (z : n ≡ 0) where
       × (count ≡ countWritten regionWidth out rs) × (more ≡ moreRemain regionWidth out rs) × (out′ ≡ written regionWords regionWidth out rs)
   descendants-listed a s e after out out′ count more f =
       let v = image-valid (boundsNo a s e) (f .number-is) in
-      (descendants s e after (setOf w), descendants-exactly (setOf w) s e after (rises v), f .done z .0, f .done z .1, f .done z .2)
+      (descendants s e after (setOf w), descendants-exactly (setOf w) s e after (set-rises w v), f .done z .0, f .done z .1, f .done z .2)
 
   pub children-listed : (a s e l after : ℕ) (out out′ : List ℕ) (count : ℕ) (more : Bool) → FindsChildren w a s e l after out n count more out′
       → (rs : List Region) × Exactly (setOf w) (ChildIn s e l after) SoonerFirst rs
       × (count ≡ countWritten regionWidth out rs) × (more ≡ moreRemain regionWidth out rs) × (out′ ≡ written regionWords regionWidth out rs)
   children-listed a s e l after out out′ count more f =
       let v = image-valid (boundsNo a s e) (f .number-is) in
-      (children s e l after (setOf w), children-exactly (setOf w) s e l after (rises v), f .done z .0, f .done z .1, f .done z .2)
+      (children s e l after (setOf w), children-exactly (setOf w) s e l after (set-rises w v), f .done z .0, f .done z .1, f .done z .2)
 
 -- PARENT
-pub parents : (S : Set) (p l : ℕ) (r : Region) → In r (filter (isAbove l) (ancestors p S)) ↔ (In r (S .regions) × ParentOf p l r)
+pub parents : (S : Set) (p l : ℕ) (r : Region) → In r (parent p l S) ↔ (In r (S .regions) × ParentOf p l r)
 parents S p l r =
     let f = filtered (isAbove l) (λ x. x .level + 1 ≡ l) (ancestors p S) (above-says l) r in
     let g = filtered (holds p) (AncestorOf p) (S .regions) (holds-says p) r in
     ((λ h. let k = f .0 h in let m = g .0 (k .0) in (m .0, (m .1, k .1))), (λ h. f .1 (g .1 (h .0, h .1 .0), h .1 .1)))
 
-pub last-one : (us : List Region) (r x : Region) → All (λ y. contains y r ≡ true) us → In x (us ++ r ∷ []) → (x ≡ r) ⊎ OuterFirst x r
-last-one us r x outer h = ⊎-elim (λ k. inr (true-so (contains-says x r) (in-all (λ y. contains y r ≡ true) x us k outer))) (λ k. ⊎-elim (λ e. inl e) (λ z. absurd z) k) (in-append x us (r ∷ []) h)
+-- a list of one has no other
+only-one : (x r : Region) → In x (r ∷ []) → x ≡ r
+only-one x r (inl e) = e
 
-pub parent-is : (S : Set) (p l : ℕ) (r : Region) → Rising (S .regions) → Nesting (S .regions) → parent p l S ≡ r ∷ [] → Innermost S (ParentOf p l) r
-parent-is S p l r up nest e =
-    let t = parent-innermost S p l r up nest e in
-    let m = parents S p l r .0 (subst (λ rs. In r rs) (sym (t .1)) (in-right r (t .0) (r ∷ []) (inl refl))) in
-    record { held = m .0; meant = m .1; inside = λ x h k. last-one (t .0) r x (t .2) (subst (λ rs. In x rs) (t .1) (parents S p l x .1 (h, k))) }
+pub the-parent : (S : Set) (p l : ℕ) (r : Region) → parent p l S ≡ r ∷ [] → TheOne S (ParentOf p l) r
+the-parent S p l r e =
+    let m = parents S p l r .0 (subst (λ rs. In r rs) (sym e) (inl refl)) in
+    record { held = m .0; meant = m .1; no-other = λ x h k. only-one x r (subst (λ rs. In x rs) e (parents S p l x .1 (h, k))) }
 
 pub no-parent : (S : Set) (p l : ℕ) → parent p l S ≡ [] → (r : Region) → In r (S .regions) → ParentOf p l r → ⊥
-no-parent S p l e r h k =
-    let i = parents S p l r .1 (h, k) in
-    let n : filter (isAbove l) (ancestors p S) ≡ [] = some-none _ (sym (found-one _) ∙ none-some _ e) in
-    rw n at i
+no-parent S p l e r h k = subst (λ rs. In r rs) e (parents S p l r .1 (h, k))
 
--- none where the set has none, else the innermost
+-- none where the set has none, else the one that it has
 pub parent-found : (w : List ℕ) (a p l : ℕ) (x : Parent) → FindsParent w a p l x → parentNumber x ≡ 0
     → (parentFound x ≡ [] → (r : Region) → In r (setOf w .regions) → ParentOf p l r → ⊥)
-    × ((r : Region) → parentFound x ≡ r ∷ [] → Innermost (setOf w) (ParentOf p l) r)
-parent-found w a p l x f z =
-    let v = image-valid w (parentNumber x) z (pointNo a p) (f .number-is) in (
-      (λ e. no-parent (setOf w) p l (sym (f .done z) ∙ e)),
-      (λ r e. parent-is (setOf w) p l r (rises w (parentNumber x) z v) (nests w (parentNumber x) z v) (sym (f .done z) ∙ e)),
+    × ((r : Region) → parentFound x ≡ r ∷ [] → TheOne (setOf w) (ParentOf p l) r)
+parent-found w a p l x f z = ((λ e. no-parent (setOf w) p l (sym (f .done z) ∙ e)), (λ r e. the-parent (setOf w) p l r (sym (f .done z) ∙ e)))
+
+-- THE JOIN BY PARENT AND CHILD: its list, all of which is counted and of which as many as fit are written, pairs no inner region twice; so there are no more pairs than the account has inner
+-- regions
+pub parents-joined : (outer inner : List ℕ) (a : ℕ) (out out′ : List ℕ) (n total : ℕ) → JoinsSets outer inner a ByParent out n total out′ → n ≡ 0
+    → let ps = joined (setOf outer) (setOf inner) a ByParent in
+    OneParentEach (setOf outer) (setOf inner) a × (total ≡ length ps) × (out′ ≡ written pairWords pairWidth out ps) × (total ≤ heldBy a (setOf inner))
+parents-joined outer inner a out out′ n total f z =
+    let both = T-of (image-right (valid outer && valid inner) (joinNo a) (sym z ∙ f .number-is)) in
+    let u = and-left (valid outer) (valid inner) both in
+    let v = and-right (valid outer) (valid inner) both in
+    let e = f .done z .0 in (
+      valid-one-parent-each outer inner u v a,
+      e,
+      f .done z .1,
+      omega (arith, parents-few (setOf outer) (set-rises outer u) (set-nests outer u) (set-leveled outer u) a (setOf inner)),
     )

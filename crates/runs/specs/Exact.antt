@@ -2,7 +2,7 @@
 -- Assumes nothing.
 use Prim.Native.Nat.{ℕ, _+_, _<_}
 use mathlib.Core.Path.{_≡_}
-use mathlib.Core.Logic.{_↔_, _⊎_}
+use mathlib.Core.Logic.{_↔_}
 use mathlib.Core.List.{List}
 use Rattle.words.specs.Lists.{Pairs, In}
 use Rattle.regions.specs.declared.Region.{Region}
@@ -34,8 +34,8 @@ pub record Exactly (S : Set) (Meant : Region → Type 0) (First : Region → Reg
   pub each-once : Pairs (λ x y. x ≡ y → ⊥) rs
   pub in-order : Pairs First rs
 
--- one region: of those that are meant the innermost
-pub record Innermost (S : Set) (Meant : Region → Type 0) (r : Region) : Type 0 where
+-- the one region of the set that is meant
+pub record TheOne (S : Set) (Meant : Region → Type 0) (r : Region) : Type 0 where
   pub held : In r (S .regions)
   pub meant : Meant r
-  pub inside : (x : Region) → In x (S .regions) → Meant x → (x ≡ r) ⊎ OuterFirst x r
+  pub no-other : (x : Region) → In x (S .regions) → Meant x → x ≡ r

@@ -1,12 +1,12 @@
 -- Lists: what every element or pair has, filters, beginnings.
 -- Assumes nothing.
-use Prim.Native.Nat.{ℕ, zero, suc, _+_}
+use Prim.Native.Nat.{ℕ, zero, suc, _+_, _≤_}
 use mathlib.Core.Path.{_≡_, refl, sym, ap, ap₂, _∙_, subst}
 use mathlib.Core.Logic.{_⊎_, inl, inr, ⊎-elim}
 use mathlib.Core.Bool.{Bool, true, false, _&&_, not, cond, true≢false}
 use mathlib.Core.List.{List, [], _∷_, _++_, map, flatMap, append-assoc}
 use lib.Dec.{T}
-use lib.ListN.{take, drop, length}
+use lib.ListN.{take, drop, length, length-append}
 use native.Mathlib.Omega.{arith}
 use Rattle.words.specs.Lists.{filter, takeWhile, dropWhile, some, all, All, Pairs, In, lastOr, firstNo}
 use Rattle.words.proofs.Tests.{T-of, off-T, no-T, both, by-test, and-comm, and-assoc}
@@ -180,10 +180,6 @@ module _ {A : Type 0} where
   in-append x (y ∷ xs) ys (inl e) = inl (inl e)
   in-append x (y ∷ xs) ys (inr h) = ⊎-elim (λ k. inl (inr k)) (λ k. inr k) (in-append x xs ys h)
 
-  pub in-right : (x : A) (xs ys : List A) → In x ys → In x (xs ++ ys)
-  in-right x [] ys h = h
-  in-right x (y ∷ xs) ys h = inr (in-right x xs ys h)
-
   pub filter-twice : (p : A → Bool) (xs : List A) → filter p (filter p xs) ≡ filter p xs
   filter-twice p xs = filter-all p (filter p xs) (all-let p xs)
 
@@ -198,6 +194,18 @@ module _ {A : Type 0} where
 
   pub pairs-kept : (R : A → A → Type 0) (p : A → Bool) (xs : List A) → Pairs R xs → Pairs R (filter p xs)
   pairs-kept R p xs h = pairs-filter {R = R} {S = R} p (λ x y s t r. r) xs h
+
+  -- where no two can stand there is at most one
+  pub none-two : (xs : List A) → Pairs (λ x y. ⊥) xs → length xs ≤ 1
+  none-two [] h = omega arith
+  none-two (x ∷ []) h = omega arith
+  none-two (x ∷ y ∷ xs) h = absurd (h .0 .0)
+
+  -- and where there is at most one no two stand
+  pub no-two : (R : A → A → Type 0) (xs : List A) → length xs ≤ 1 → Pairs R xs
+  no-two R [] l = tt
+  no-two R (x ∷ []) l = (tt, tt)
+  no-two R (x ∷ y ∷ xs) l = absurd (omega arith)
 
   pub none-of : (p : A → Bool) (xs : List A) → filter p xs ≡ [] → All (λ x. p x ≡ false) xs
   unfolding filter
@@ -282,6 +290,12 @@ module _ {A B : Type 0} where
   unfolding flatMap
   all-flat P f [] h = tt
   all-flat P f (x ∷ xs) h = all-append P (f x) (flatMap f xs) (h .0) (all-flat P f xs (h .1))
+
+  -- at most one for each
+  pub flat-few : (f : A → List B) → ((x : A) → length (f x) ≤ 1) → (xs : List A) → length (flatMap f xs) ≤ length xs
+  unfolding flatMap
+  flat-few f h [] = omega arith
+  flat-few f h (x ∷ xs) = omega (arith, h x, flat-few f h xs, length-append (f x) (flatMap f xs))
 
 pub first-no : (b : Bool) (n : ℕ) (ts : List (Bool × ℕ)) → b ≡ false → firstNo ((b, n) ∷ ts) ≡ firstNo ts
 unfolding firstNo

@@ -107,7 +107,7 @@ impl Sorted {
 
     pub fn parent(&self, p: u32, level: u32) -> Option<Region> {
         let above = self.regions.iter().take_while(|r| r.start < p);
-        above.filter(|r| p < r.end && r.level.wrapping_add(1) == level).last().copied()
+        above.copied().find(|r| p < r.end && r.level.wrapping_add(1) == level)
     }
 
     pub fn descendants(&self, start: u32, end: u32, after: u32, out: &mut Out) {

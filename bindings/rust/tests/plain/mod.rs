@@ -126,8 +126,12 @@ impl Set {
         ascending(self.regions.iter().filter(|r| holds(r, p)).copied().collect())
     }
 
+    /// One or none: no two ancestors of a position have the same level.
     pub fn parent(&self, p: u32, level: u32) -> Option<Region> {
-        self.ancestors(p).into_iter().filter(|r| r.level.checked_add(1) == Some(level)).last()
+        let mut above = self.ancestors(p).into_iter().filter(|r| r.level.checked_add(1) == Some(level));
+        let parent = above.next();
+        assert_eq!(above.next(), None, "a second parent of {p} at {level}");
+        parent
     }
 
     pub fn descendants(&self, start: u32, end: u32, after: u32) -> Vec<Region> {
@@ -143,7 +147,7 @@ pub fn join_number(account: u32) -> u32 {
     if account > 15 { ACCOUNT } else { 0 }
 }
 
-/// The pairs (a, d) of an account.
+/// The pairs (a, d) of an account. By parent each d stands in one of them at most.
 pub fn joined(outer: &Set, inner: &Set, account: u32, by_parent: bool) -> Vec<(Region, Region)> {
     let mut pairs = Vec::new();
     for a in outer.regions.iter().filter(|a| account_of(a.start) == account) {
@@ -154,6 +158,7 @@ pub fn joined(outer: &Set, inner: &Set, account: u32, by_parent: bool) -> Vec<(R
         }
     }
     pairs.sort_by_key(|(a, d)| (d.start, a.start));
+    assert!(!by_parent || pairs.windows(2).all(|two| two[0].1.start < two[1].1.start), "a second parent of one region in {account}");
     pairs
 }
 

@@ -1,4 +1,4 @@
--- `search::parent` meets its contract: level 0 has none; else the last one taken is the innermost.
+-- `search::parent` meets its contract: level 0 has none; else the last one taken is the only one.
 -- Assumes nothing.
 use borrow.Author.Needs.{needs}
 use mathlib.Core.Path.{ap, sym, _∙_}
@@ -29,10 +29,10 @@ enum-told : tie.Need-enum-told
 enum-told c = search needs
 
 returns-2 : tie.Need-returns-2
-returns-2 c = ap foundList (sym (c .enum-told .given .1)) ∙ parent-found _ _ (setOf (now (c .before .before .before .before .before .before .before .before .args .img))) (c .before .before .before .search .ensures)
+returns-2 c = ap foundList (sym (c .enum-told .given .1)) ∙ parent-found (now (c .before .before .before .before .before .before .before .before .args .img)) _ _ (c .before .before .before .before .before .before .before .before .pre) (c .before .before .before .search .ensures)
 
 returns-3 : tie.Need-returns-3
-returns-3 c = ap foundList (sym (c .before .last .given .1)) ∙ parent-found _ _ (setOf (now (c .before .before .before .before .before .before .before .before .before .args .img))) (c .before .before .before .before .search .ensures)
+returns-3 c = ap foundList (sym (c .before .last .given .1)) ∙ parent-found (now (c .before .before .before .before .before .before .before .before .before .args .img)) _ _ (c .before .before .before .before .before .before .before .before .before .pre) (c .before .before .before .before .search .ensures)
 
 pub parent-spec : {M : Type 1} → statement M
 parent-spec =
