@@ -105,9 +105,17 @@ impl Sorted {
         }
     }
 
+    /// There is one or none, so the scan ends at the first that fits.
     pub fn parent(&self, p: u32, level: u32) -> Option<Region> {
-        let above = self.regions.iter().take_while(|r| r.start < p);
-        above.copied().find(|r| p < r.end && r.level.wrapping_add(1) == level)
+        for r in &self.regions {
+            if r.start >= p {
+                return None;
+            }
+            if p < r.end && r.level.wrapping_add(1) == level {
+                return Some(*r);
+            }
+        }
+        None
     }
 
     pub fn descendants(&self, start: u32, end: u32, after: u32, out: &mut Out) {
