@@ -2,10 +2,9 @@
 -- Assumes nothing.
 use Prim.Native.Nat.{ℕ, zero, suc, _+_, _<_}
 use mathlib.Core.Path.{_≡_, refl, ap, _∙_}
-use mathlib.Core.List.{List, [], _∷_, _++_}
+use mathlib.Core.List.{List, _∷_}
 use lib.ListN.{length, getD}
 use native.Mathlib.Omega.{arith}
-use Rattle.words.specs.Lists.{lastOr}
 use Rattle.xrtree.specs.Tree.{Entry}
 use Rattle.pages.specs.Layout.{entryWord, keyWord, childWord, childIn}
 use Rattle.pages.specs.declared.KeyWords.{KeyWords}
@@ -87,9 +86,3 @@ key-in ws i m j d h = ap (λ l. getD l j d) (keys-up ws i m) ∙ up-at (keyWords
 
 pub child-in : (ws : List ℕ) (i m j : ℕ) → j < m → getD (childrenFrom ws i m) j 0 ≡ childIn ws (i + j)
 child-in ws i m j h = ap (λ l. getD l j 0) (children-up ws i m) ∙ up-at (childIn ws) i m j 0 h
-
--- the last of children
-pub last-append : {A : Type 0} (d y : A) (xs ys : List A) → lastOr d (xs ++ y ∷ ys) ≡ lastOr y ys
-unfolding lastOr
-last-append d y [] ys = refl
-last-append d y (x ∷ xs) ys = last-append x y xs ys

@@ -10,7 +10,7 @@ use native.Mathlib.Omega.{arith}
 use Rattle.words.specs.Lists.{All, Pairs, count, filter, lastOr}
 use Rattle.words.proofs.Tests.{by-test}
 use Rattle.words.proofs.Counted.{count-append}
-use Rattle.words.proofs.Listed.{all-mono, all-two, all-take, all-drop, pairs-mono, pairs-right, map-append}
+use Rattle.words.proofs.Listed.{all-mono, all-two, all-take, all-drop, pairs-mono, pairs-right, map-append, last-append}
 use Rattle.regions.specs.Positions.{stabs}
 use Rattle.regions.specs.declared.Region.{Region}
 use Rattle.pages.specs.Layout.{pageOf, markOf, fillOf, nextOf}
@@ -26,7 +26,7 @@ use Rattle.xrtree.proofs.Merge.{all-unmap}
 use Rattle.xrtree.proofs.CutLeaf.{cut, fresh-first, fresh-append, marked-later}
 use Rattle.image.specs.Read.{entryAt, entriesFrom}
 use Rattle.newpages.specs.Pages.{entriesOf, sparesOf, IsLeaf}
-use Rattle.newpages.proofs.Read.{entries-up, entry-in, last-append}
+use Rattle.newpages.proofs.Read.{entries-up, entry-in}
 use Rattle.newpages.proofs.Items.{up-take}
 use Rattle.holding.specs.Held.{KeyHeld, LeafHeld}
 use Rattle.records.proofs.Marks.{none-in, touched-then}
@@ -115,7 +115,7 @@ module _ (lf : List ℕ) (c : ℕ) (one : 1 ≤ c) (more : c < fillOf lf) (pairs
   -- the two starts that rule 2 makes the key of, by the parts
   pub last-start : lastOr 0 (startsOf (take c (entriesOf lf))) ≡ entryAt lf (c - 1) .region .start
   unfolding lastOr
-  last-start = rw (take-c, map-append) (last-append 0 _ (startsOf (take (c - 1) (entriesOf lf))) [])
+  last-start = rw (take-c, map-append) (last-append 0 (startsOf (take (c - 1) (entriesOf lf))) _ [])
 
   pub first-start : getD (startsOf (drop c (entriesOf lf))) 0 0 ≡ entryAt lf c .region .start
   first-start = rw drop-c
