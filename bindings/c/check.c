@@ -27,11 +27,19 @@ static void check_searches(void) {
     const uint32_t holding[] = {10, 90, 1, 101, 20, 50, 2, 102, 30, 40, 3, 103};
     const uint32_t held[] = {20, 50, 2, 102, 30, 40, 3, 103};
     const uint32_t below[] = {20, 50, 2, 102, 60, 80, 2, 104};
-    struct sasnuvarth_ancestors_answer a = sasnuvarth_ancestors(outer, SASNUVARTH_IMAGE_WORDS, 0, 35, out, 24);
+    struct sasnuvarth_ancestors_answer a = sasnuvarth_ancestors(outer, SASNUVARTH_IMAGE_WORDS, 0, 35, SASNUVARTH_STRICT, out, 24);
     expect("ancestors", a.number, SASNUVARTH_DONE);
     expect("ancestors' total", a.total, 3);
     expect("ancestors' steps", a.steps, 1);
     expect_words("ancestors' words", out, holding, 12);
+    expect("strictly at a start", sasnuvarth_ancestors(outer, SASNUVARTH_IMAGE_WORDS, 0, 30, SASNUVARTH_STRICT, out, 24).total, 2);
+    memset(out, 0, sizeof out);
+    a = sasnuvarth_ancestors(outer, SASNUVARTH_IMAGE_WORDS, 0, 30, SASNUVARTH_WITH_SELF, out, 24);
+    expect("with self", a.number, SASNUVARTH_DONE);
+    expect("with self at a start", a.total, 3);
+    expect("its steps", a.steps, 1);
+    expect_words("its words", out, holding, 12);
+    expect("with self at an end", sasnuvarth_ancestors(outer, SASNUVARTH_IMAGE_WORDS, 0, 40, SASNUVARTH_WITH_SELF, out, 24).total, 2);
     struct sasnuvarth_parent_answer p = sasnuvarth_parent(outer, SASNUVARTH_IMAGE_WORDS, 0, 35, 4);
     expect("parent", p.number, SASNUVARTH_DONE);
     expect("parent found", p.found, true);
@@ -52,9 +60,11 @@ static void check_searches(void) {
 }
 
 static void check_join(void) {
-    uint32_t out[20];
+    uint32_t out[32];
     const uint32_t pairs[] = {10, 101, 35, 201, 20, 102, 35, 201, 30, 103, 35, 201, 10, 101, 70, 202, 60, 104, 70, 202};
     const uint32_t parents[] = {30, 103, 35, 201, 60, 104, 70, 202};
+    const uint32_t own[] = {10, 101, 10, 101, 10, 101, 20, 102, 20, 102, 20, 102, 10, 101, 30, 103,
+                            20, 102, 30, 103, 30, 103, 30, 103, 10, 101, 60, 104, 60, 104, 60, 104};
     const size_t n = SASNUVARTH_IMAGE_WORDS;
     struct sasnuvarth_join_answer j = sasnuvarth_join(outer, n, inner, n, 0, SASNUVARTH_BY_ANCESTOR, out, 20);
     expect("join", j.number, SASNUVARTH_DONE);
@@ -64,6 +74,10 @@ static void check_join(void) {
     expect("join by parent", j.number, SASNUVARTH_DONE);
     expect("its total, one pair for each d", j.total, 2);
     expect_words("its words", out, parents, 8);
+    j = sasnuvarth_join(outer, n, outer, n, 0, SASNUVARTH_BY_ANCESTOR_OR_SELF, out, 32);
+    expect("join with itself by ancestor or self", j.number, SASNUVARTH_DONE);
+    expect("its total, one more for each d", j.total, 8);
+    expect_words("its words", out, own, 32);
     expect("join of account 16", sasnuvarth_join(outer, n, inner, n, 16, 0, out, 20).number, SASNUVARTH_ACCOUNT);
 }
 
@@ -96,6 +110,21 @@ static void check_desk(void) {
     expect("close seat", s.number, SASNUVARTH_DONE);
     expect("closed", s.desk.seats[1].opened, 0);
     expect("close again", sasnuvarth_close_seat(s.desk, 1).number, SASNUVARTH_SEAT);
+    s = sasnuvarth_open_seat(s.desk, 3, 0, SASNUVARTH_BY_ANCESTOR_OR_SELF, 3);
+    expect("open by ancestor or self", s.number, SASNUVARTH_DONE);
+    expect("its kind", s.desk.seats[3].kind, SASNUVARTH_BY_ANCESTOR_OR_SELF);
+    r = sasnuvarth_round(outer, n, outer, n, s.desk, buffer, SASNUVARTH_BUFFER_WORDS);
+    expect("its first count", r.counts[3], 3);
+    expect("its mark's a", r.desk.seats[3].a, 20);
+    expect("its mark's d", r.desk.seats[3].d, 20);
+    r = sasnuvarth_round(outer, n, outer, n, r.desk, buffer, SASNUVARTH_BUFFER_WORDS);
+    expect("its second count", r.counts[3], 3);
+    expect("its second pairs' first d", buffer[3 * 128 + 2], 30);
+    r = sasnuvarth_round(outer, n, outer, n, r.desk, buffer, SASNUVARTH_BUFFER_WORDS);
+    expect("its third count", r.counts[3], 2);
+    expect("its last a", r.desk.seats[3].a, 60);
+    expect("its last d", r.desk.seats[3].d, 60);
+    expect("any other kind is told as by parent", sasnuvarth_open_seat(s.desk, 4, 0, 3, 3).desk.seats[4].kind, SASNUVARTH_BY_PARENT);
 }
 
 int main(void) {

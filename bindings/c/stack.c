@@ -35,7 +35,7 @@ static uint32_t number;    /* what it answered */
 CALL(open_set, sasnuvarth_open_set(image, WORDS, shares))
 CALL(save, sasnuvarth_save(image, WORDS, 0, what.start, what.end, what.level, 1))
 CALL(delete, sasnuvarth_delete(image, WORDS, 0, what.start))
-CALL(ancestors, sasnuvarth_ancestors(image, WORDS, 0, what.start, out, 4 * REGIONS).number)
+CALL(ancestors, sasnuvarth_ancestors(image, WORDS, 0, what.start, SASNUVARTH_STRICT, out, 4 * REGIONS).number)
 CALL(parent, sasnuvarth_parent(image, WORDS, 0, what.start, what.level).number)
 CALL(descendants, sasnuvarth_descendants(image, WORDS, 0, what.start, what.end, 0, out, 4 * REGIONS).number)
 CALL(children, sasnuvarth_children(image, WORDS, 0, what.start, what.end, what.level, 0, out, 4 * REGIONS).number)

@@ -47,10 +47,17 @@ enum {
     SASNUVARTH_LEVEL = 14   /* its level contradicts one around it or inside it (those around have smaller levels, those inside greater); asked behind CROSS */
 };
 
-/* A join's kind: any number but 0 is by parent. */
+/* Whether a region that starts at a position holds it: any number but 0 is with self. One that ends there never does. */
+enum {
+    SASNUVARTH_STRICT = 0,   /* start < p < end */
+    SASNUVARTH_WITH_SELF = 1 /* start <= p < end */
+};
+
+/* A join's kind: 0 by ancestor, 2 by ancestor or self, any other number by parent. By ancestor and by parent are strict. */
 enum {
     SASNUVARTH_BY_ANCESTOR = 0,
-    SASNUVARTH_BY_PARENT = 1
+    SASNUVARTH_BY_PARENT = 1,
+    SASNUVARTH_BY_ANCESTOR_OR_SELF = 2 /* with self, by position alone: across two sets any a that starts where d does, whatever the levels */
 };
 
 struct sasnuvarth_ancestors_answer {
@@ -87,12 +94,12 @@ uint32_t sasnuvarth_save(uint32_t *image, size_t image_words, uint32_t account,
 
 uint32_t sasnuvarth_delete(uint32_t *image, size_t image_words, uint32_t account, uint32_t start);
 
-/* The regions that strictly hold p, outermost first. */
+/* The regions that hold p, by the choice, outermost first; with self the one that starts at p is the last. */
 struct sasnuvarth_ancestors_answer
-sasnuvarth_ancestors(const uint32_t *image, size_t image_words, uint32_t account, uint32_t p,
+sasnuvarth_ancestors(const uint32_t *image, size_t image_words, uint32_t account, uint32_t p, uint32_t choice,
                      uint32_t *out, size_t out_words);
 
-/* The one of them whose level is one less, if there is one: no two that hold p have the same level. */
+/* The one that strictly holds p and whose level is one less, if there is one: no two that hold p have the same level. */
 struct sasnuvarth_parent_answer
 sasnuvarth_parent(const uint32_t *image, size_t image_words, uint32_t account, uint32_t p, uint32_t level);
 
@@ -108,7 +115,7 @@ sasnuvarth_children(const uint32_t *image, size_t image_words, uint32_t account,
                     uint32_t *out, size_t out_words);
 
 /* An account's pairs of a region a in outer that holds the start of a region d in inner, by d's start, then a's. By parent each d stands
-   in one pair at most. */
+   in one pair at most. By ancestor or self, where both are one set, each d's last pair is with itself. */
 struct sasnuvarth_join_answer
 sasnuvarth_join(const uint32_t *outer, size_t outer_words, const uint32_t *inner, size_t inner_words,
                 uint32_t account, uint32_t kind, uint32_t *out, size_t out_words);
@@ -117,7 +124,7 @@ sasnuvarth_join(const uint32_t *outer, size_t outer_words, const uint32_t *inner
 struct sasnuvarth_seat {
     uint32_t opened; /* 0: the seat is closed, and the others mean nothing */
     uint32_t account;
-    uint32_t kind;
+    uint32_t kind; /* by a call that was done handed back as 0, 1 or 2 */
     uint32_t limit;
     uint32_t marked; /* 0: the mark is fresh, and a and d mean nothing */
     uint32_t a;      /* the last pair handed: a's start and d's start */

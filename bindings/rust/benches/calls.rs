@@ -10,7 +10,7 @@ mod chance;
 mod sorted;
 
 use chance::{nest, Chance, Shape};
-use sasnuvarth::{Desk, Kind, Region, BUFFER_WORDS};
+use sasnuvarth::{Choice, Desk, Kind, Region, BUFFER_WORDS};
 use sorted::{Out, Sorted};
 use std::hint::black_box;
 use std::time::Instant;
@@ -54,7 +54,7 @@ fn both(regions: &[Region]) -> Both {
 }
 
 fn refused_behind_the_test(image: &[u32]) {
-    assert!(black_box(sasnuvarth::ancestors(image, 16, 0, &mut [])).is_err());
+    assert!(black_box(sasnuvarth::ancestors(image, 16, 0, Choice::Strict, &mut [])).is_err());
 }
 
 struct Case {
@@ -154,7 +154,7 @@ fn bench_searches(case: &Case) {
         "ancestors",
         case,
         set,
-        |image, r, out| _ = black_box(sasnuvarth::ancestors(image, 0, r.start, out)),
+        |image, r, out| _ = black_box(sasnuvarth::ancestors(image, 0, r.start, Choice::Strict, out)),
         |sorted, r, out| sorted.ancestors(r.start, black_box(&mut Out::new(out))),
     );
     bench_search(
@@ -180,9 +180,24 @@ fn bench_searches(case: &Case) {
     );
 }
 
+/// A join answers alike all three ways, by every kind.
+fn check_join(outer: &Both, inner: &Both) {
+    for kind in [Kind::Ancestor, Kind::Parent, Kind::AncestorOrSelf] {
+        let [mut ours, mut scan, mut merge] = [(); 3].map(|_| vec![0; 4 * 2000]);
+        let total = sasnuvarth::join(&outer.image, &inner.image, 0, kind, &mut ours).unwrap();
+        let (mut by_scan, mut by_merge) = (Out::new(&mut scan), Out::new(&mut merge));
+        outer.sorted.join(&inner.sorted, kind, &mut by_scan);
+        outer.sorted.merge_join(&inner.sorted, kind, &mut by_merge);
+        assert_eq!([by_scan.total, by_merge.total], [total; 2]);
+        assert!(ours == scan && ours == merge);
+    }
+}
+
 /// A join three ways, and the test of its two images; prints the call's time, the test's share, the call against the scan and against
 /// the merge, and against the merge what the call does beside the test.
 fn bench_join(what: &str, outer: &Both, inner: &Both) {
+    check_join(outer, inner);
+    check_join(outer, outer);
     let mut out = vec![0; 4 * 2000];
     let mut totals = [0; 3];
     let [ours, test, scan, merge] = medians(|| {

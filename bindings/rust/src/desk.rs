@@ -46,9 +46,8 @@ fn seat_of(flat: FlatSeat) -> Seat {
     if flat.opened == 0 {
         return Seat::Closed;
     }
-    let kind = if flat.kind == 0 { Kind::Ancestor } else { Kind::Parent };
     let mark = if flat.marked == 0 { Mark::Fresh } else { Mark::Last { a: flat.a, d: flat.d } };
-    Seat::Open { account: flat.account, kind, limit: flat.limit, mark }
+    Seat::Open { account: flat.account, kind: Kind::of(flat.kind), limit: flat.limit, mark }
 }
 
 impl Desk {

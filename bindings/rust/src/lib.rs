@@ -24,18 +24,45 @@ pub struct Region {
     pub reference: u32,
 }
 
+/// Whether a region that starts at a position holds it. One that ends there never does.
+#[derive(Clone, Copy, Debug, PartialEq, Eq)]
+pub enum Choice {
+    Strict,
+    WithSelf,
+}
+
+impl Choice {
+    fn number(self) -> u32 {
+        match self {
+            Choice::Strict => 0,
+            Choice::WithSelf => 1,
+        }
+    }
+}
+
 /// What a join pairs.
 #[derive(Clone, Copy, Debug, PartialEq, Eq)]
 pub enum Kind {
     Ancestor,
     Parent,
+    /// By position alone: across two sets any a that starts where d does is paired too, whatever the levels.
+    AncestorOrSelf,
 }
 
 impl Kind {
+    fn of(number: u32) -> Kind {
+        match number {
+            0 => Kind::Ancestor,
+            2 => Kind::AncestorOrSelf,
+            _ => Kind::Parent,
+        }
+    }
+
     fn number(self) -> u32 {
         match self {
             Kind::Ancestor => 0,
             Kind::Parent => 1,
+            Kind::AncestorOrSelf => 2,
         }
     }
 }
@@ -138,9 +165,11 @@ pub fn delete(image: &mut [u32], account: u32, start: u32) -> Answer<()> {
     done(number, ())
 }
 
-/// The regions that strictly hold p, outermost first: four words each, as many as fit.
-pub fn ancestors(image: &[u32], account: u32, p: u32, out: &mut [u32]) -> Answer<Ancestors> {
-    let told = unsafe { raw::sasnuvarth_ancestors(image.as_ptr(), image.len(), account, p, out.as_mut_ptr(), out.len()) };
+/// The regions that hold p, by the choice, outermost first: four words each, as many as fit. With self the one that starts at p is the last.
+pub fn ancestors(image: &[u32], account: u32, p: u32, choice: Choice, out: &mut [u32]) -> Answer<Ancestors> {
+    let told = unsafe {
+        raw::sasnuvarth_ancestors(image.as_ptr(), image.len(), account, p, choice.number(), out.as_mut_ptr(), out.len())
+    };
     done(told.number, Ancestors { total: told.total, steps: told.steps })
 }
 
@@ -170,6 +199,7 @@ pub fn children(image: &[u32], account: u32, start: u32, end: u32, level: u32, a
 
 /// The pairs of an account, a of outer and d of inner, by d's start and then a's: four words each (a start, a reference, d start,
 /// d reference), as many as fit. Answers how many there are. Both sets may be one image. By parent each d stands in one pair at most.
+/// By ancestor or self, where both are one set, each d's last pair is with itself.
 pub fn join(outer: &[u32], inner: &[u32], account: u32, kind: Kind, out: &mut [u32]) -> Answer<usize> {
     let told = unsafe {
         raw::sasnuvarth_join(

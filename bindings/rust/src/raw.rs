@@ -85,6 +85,7 @@ extern "C" {
         image_words: usize,
         account: u32,
         p: u32,
+        choice: u32,
         out: *mut u32,
         out_words: usize,
     ) -> AncestorsAnswer;

@@ -6,7 +6,7 @@ use plain::chance::{mislevel, nest, Chance, Shape, SHAPES};
 use plain::image::{read, Read};
 use plain::*;
 use sasnuvarth::raw::*;
-use sasnuvarth::{Ancestors, Kind, Listed, Refusal, Region, IMAGE_WORDS};
+use sasnuvarth::{Ancestors, Choice, Kind, Listed, Refusal, Region, IMAGE_WORDS};
 
 /// A set as the library has it, and what it should mean: none where the image is not valid.
 struct Side {
@@ -81,18 +81,18 @@ fn expect_items(number: u32, out: &[u32], items: Vec<[u32; 4]>) -> (usize, usize
     (items.len(), items.len().min(out.len() / 4), written(out, &items))
 }
 
-fn check_ancestors(image: &[u32], meant: &Option<Read>, account: u32, p: u32, lent: &[u32]) {
+fn check_ancestors(image: &[u32], meant: &Option<Read>, account: u32, p: u32, choice: u32, lent: &[u32]) {
     let number = meant.as_ref().map_or(IMAGE, |m| m.set.point_number(account, p));
-    let found = meant.as_ref().map_or(Vec::new(), |m| m.set.ancestors(p));
+    let found = meant.as_ref().map_or(Vec::new(), |m| m.set.ancestors(choice, p));
     let (total, _, words) = expect_items(number, lent, region_words(&found));
-    let steps = meant.as_ref().filter(|_| number == 0).map_or(0, |m| m.steps(p));
+    let steps = meant.as_ref().filter(|_| number == 0).map_or(0, |m| m.steps(choice, p));
     let mut out = lent.to_vec();
-    let told = unsafe { sasnuvarth_ancestors(image.as_ptr(), image.len(), account, p, out.as_mut_ptr(), out.len()) };
-    assert_eq!((told.number, told.total, told.steps), (number, total, steps), "ancestors of {p} in {account}");
+    let told = unsafe { sasnuvarth_ancestors(image.as_ptr(), image.len(), account, p, choice, out.as_mut_ptr(), out.len()) };
+    assert_eq!((told.number, told.total, told.steps), (number, total, steps), "ancestors of {p} in {account} by {choice}");
     assert!(steps <= 4 + 2 * total);
     assert_eq!(out, words);
     let mut out = lent.to_vec();
-    let safe = sasnuvarth::ancestors(image, account, p, &mut out);
+    let safe = sasnuvarth::ancestors(image, account, p, if choice == 0 { Choice::Strict } else { Choice::WithSelf }, &mut out);
     assert_eq!(safe, Refusal::of(number).map_or(Ok(Ancestors { total, steps }), Err));
     assert_eq!(out, words);
 }
@@ -146,16 +146,45 @@ fn check_inward(image: &[u32], meant: &Option<Read>, b: Bounds, lent: &[u32]) {
 fn check_join(outer: (&[u32], &Option<Read>), inner: (&[u32], &Option<Read>), account: u32, kind: u32, lent: &[u32]) {
     let both = outer.1.as_ref().zip(inner.1.as_ref());
     let number = both.map_or(IMAGE, |_| join_number(account));
-    let pairs = both.map_or(Vec::new(), |(x, y)| joined(&x.set, &y.set, account, kind != 0));
+    let pairs = both.map_or(Vec::new(), |(x, y)| joined(&x.set, &y.set, account, kind));
     let (total, _, words) = expect_items(number, lent, pair_words(&pairs));
     let (x, y, mut out) = (outer.0, inner.0, lent.to_vec());
     let told = unsafe { sasnuvarth_join(x.as_ptr(), x.len(), y.as_ptr(), y.len(), account, kind, out.as_mut_ptr(), out.len()) };
     assert_eq!((told.number, told.total), (number, total), "join of {account} by {kind}");
     assert_eq!(out, words);
     let mut out = lent.to_vec();
-    let safe = sasnuvarth::join(x, y, account, if kind == 0 { Kind::Ancestor } else { Kind::Parent }, &mut out);
+    let safe = sasnuvarth::join(x, y, account, [Kind::Ancestor, Kind::Parent, Kind::AncestorOrSelf][kind_told(kind) as usize], &mut out);
     assert_eq!(safe, Refusal::of(number).map_or(Ok(total), Err));
     assert_eq!(out, words);
+}
+
+/// All ancestors, with room for as many as there are.
+fn all_ancestors(image: &[u32], account: u32, p: u32, choice: Choice) -> Vec<u32> {
+    let total = sasnuvarth::ancestors(image, account, p, choice, &mut []).unwrap().total;
+    let mut out = vec![0; 4 * total];
+    assert_eq!(sasnuvarth::ancestors(image, account, p, choice, &mut out).map(|told| told.total), Ok(total));
+    out
+}
+
+/// All pairs, each as a's start and d's.
+fn all_pairs(outer: &[u32], inner: &[u32], account: u32, kind: Kind) -> Vec<(u32, u32)> {
+    let total = sasnuvarth::join(outer, inner, account, kind, &mut []).unwrap();
+    let mut out = vec![0; 4 * total];
+    assert_eq!(sasnuvarth::join(outer, inner, account, kind, &mut out), Ok(total));
+    out.chunks_exact(4).map(|q| (q[0], q[2])).collect()
+}
+
+/// With self is strict and one more at the end: what starts at p, if that is held; and of each d's pairs in its own set, itself.
+fn check_self(image: &[u32], meant: &Option<Read>, p: u32) {
+    let Some(Read { set, .. }) = meant else { return };
+    let account = account_of(p);
+    let mut right = all_ancestors(image, account, p, Choice::Strict);
+    right.extend(set.regions.iter().filter(|r| r.start == p).flat_map(|r| [r.start, r.end, r.level, r.reference]));
+    assert_eq!(all_ancestors(image, account, p, Choice::WithSelf), right, "with self of {p}");
+    let mut right = all_pairs(image, image, account, Kind::Ancestor);
+    right.extend(set.regions.iter().filter(|r| account_of(r.start) == account).map(|r| (r.start, r.start)));
+    right.sort_by_key(|&(_, d)| d); // which leaves a d's pairs as they stand: its own behind the others
+    assert_eq!(all_pairs(image, image, account, Kind::AncestorOrSelf), right, "with self in {account}");
 }
 
 // ---- arguments by chance
@@ -209,7 +238,7 @@ fn lent_words(chance: &mut Chance) -> Vec<u32> {
 /// A region to save: one that was set aside, or made of two positions.
 fn candidate(chance: &mut Chance, pool: &[Region]) -> Region {
     if !pool.is_empty() && chance.percent(70) {
-        return chance.pick(pool);
+        return chance.deeper(pool);
     }
     let start = position(chance, pool);
     let end = if chance.percent(50) { position(chance, pool) } else { start.wrapping_add(chance.below(30)) };
@@ -229,13 +258,14 @@ fn look(chance: &mut Chance, outer: &Side, inner: &Side, pool: &[Region], asks: 
         let lent = lent_words(chance);
         let (end, after) = (position(chance, pool), if chance.percent(60) { 0 } else { position(chance, pool) });
         let l = level(chance);
-        match chance.below(6) {
-            0 => check_ancestors(image, meant, account, p, &lent),
+        match chance.below(7) {
+            0 => check_ancestors(image, meant, account, p, chance.choice(), &lent),
             1 => check_parent(image, meant, account, p, l),
             2 => check_inward(image, meant, Bounds { account, start: p, end, after, level: None }, &lent),
             3 => check_inward(image, meant, Bounds { account, start: p, end, after, level: Some(l) }, &lent),
-            4 => check_join((&outer.image, &x), (&inner.image, &y), account, chance.below(3), &lent),
-            _ => check_join((image, meant), (image, meant), account, chance.below(3), &lent),
+            4 => check_join((&outer.image, &x), (&inner.image, &y), account, chance.kind(), &lent),
+            5 => check_join((image, meant), (image, meant), account, chance.kind(), &lent),
+            _ => check_self(image, meant, p),
         }
     }
 }
@@ -448,12 +478,12 @@ fn bench_examples() {
     shares[0] = 10;
     let mut outer = open(shares).image;
     let region = |start, end, level, reference| Region { start, end, level, reference };
-    for r in [region(10, 90, 1, 101), region(20, 50, 2, 102), region(30, 40, 3, 103), region(60, 80, 2, 104)] {
+    for r in OUTER {
         assert_eq!(sasnuvarth::save(&mut outer, 0, r), Ok(()));
     }
     let out = &mut [0; 64];
     for (p, right) in [(35, &[10, 20, 30][..]), (30, &[10, 20]), (40, &[10, 20]), (10, &[]), (90, &[])] {
-        let told = sasnuvarth::ancestors(&outer, 0, p, out).unwrap();
+        let told = sasnuvarth::ancestors(&outer, 0, p, Choice::Strict, out).unwrap();
         assert_eq!(starts(out, told.total), right);
     }
     for ((start, end), right) in [((10, 90), &[20, 30, 60][..]), ((20, 50), &[30])] {
@@ -479,6 +509,39 @@ fn bench_examples() {
     assert_eq!(sasnuvarth::join(&outer, &inner, 0, Kind::Parent, out), Ok(3));
     let once: Vec<(u32, u32)> = out.chunks_exact(4).take(3).map(|q| (q[0], q[2])).collect();
     assert_eq!(once, [(20, 25), (20, 35), (60, 70)]);
+}
+
+/// By hand, with self: a start counts and an end does not. Across sets it is the position that counts and no level; a parent is strict.
+#[test]
+fn with_self() {
+    let mut shares = [0; 16];
+    (shares[0], shares[1]) = (10, 10);
+    let (mut outer, mut inner) = (open(shares).image, open(shares).image);
+    for r in OUTER {
+        assert_eq!(sasnuvarth::save(&mut outer, 0, r), Ok(()));
+    }
+    for (p, right) in [(30, &[10, 20, 30][..]), (35, &[10, 20, 30]), (40, &[10, 20]), (90, &[]), (10, &[10]), (9, &[])] {
+        let found = all_ancestors(&outer, 0, p, Choice::WithSelf);
+        assert_eq!(starts(&found, found.len() / 4), right);
+    }
+    let pairs = [(10, 10), (10, 20), (20, 20), (10, 30), (20, 30), (30, 30), (10, 60), (60, 60)];
+    assert_eq!(all_pairs(&outer, &outer, 0, Kind::AncestorOrSelf), pairs);
+    for (start, end, level) in [(20, 25, 3), (30, 85, 1), (40, 41, 2), (90, 91, 5)] {
+        assert_eq!(sasnuvarth::save(&mut inner, 0, Region { start, end, level, reference: 0 }), Ok(()));
+    }
+    let across = [(10, 20), (20, 20), (10, 30), (20, 30), (30, 30), (10, 40), (20, 40)];
+    assert_eq!(all_pairs(&outer, &inner, 0, Kind::AncestorOrSelf), across);
+    assert_eq!(all_pairs(&outer, &inner, 0, Kind::Parent), [(10, 40)]);
+    // at the first position of an account, and at the last start of a document before it
+    let first = 268_435_456;
+    for (account, start) in [(0, first - 2), (1, first)] {
+        let r = Region { start, end: start + 1, level: 1, reference: 0 };
+        assert_eq!(sasnuvarth::save(&mut outer, account, r), Ok(()));
+        assert_eq!(all_ancestors(&outer, account, start, Choice::Strict), []);
+        assert_eq!(all_ancestors(&outer, account, start, Choice::WithSelf), [start, start + 1, 1, 0]);
+    }
+    assert_eq!(all_pairs(&outer, &outer, 1, Kind::AncestorOrSelf), [(first, first)]);
+    assert_eq!(all_pairs(&outer, &outer, 0, Kind::AncestorOrSelf).last(), Some(&(first - 2, first - 2)));
 }
 
 /// A level for each of 255 regions one inside the other; then none is left, around, between or inside.

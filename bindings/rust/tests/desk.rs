@@ -5,7 +5,7 @@ mod plain;
 use plain::chance::{nest, Chance, SHAPES};
 use plain::desk::{close_seat, open_desk, open_seat, part, round};
 use plain::image::read;
-use plain::{account_of, Set};
+use plain::{account_of, Set, OUTER};
 use sasnuvarth::raw::*;
 use sasnuvarth::{Desk, Kind, Mark, Refusal, Region, Seat, HOUSE_LIMIT, MOST_A_ROUND};
 
@@ -68,7 +68,7 @@ fn call(chance: &mut Chance, outer: &[u32], inner: &[u32], desk: &mut FlatDesk, 
     let account = if chance.percent(80) { chance.pick(&[0, 3, 15]) } else { 10 + chance.below(12) };
     let limit = if chance.percent(60) { chance.below(6) } else { chance.below(35) };
     let (number, after) = match chance.below(20) {
-        0..=5 => check_open_seat(desk, i, account, chance.below(3), limit),
+        0..=5 => check_open_seat(desk, i, account, chance.kind(), limit),
         6..=7 => check_close_seat(desk, i),
         8..=12 => {
             let (number, _, after) = check_round(outer, inner, desk, buffer);
@@ -114,7 +114,7 @@ fn desk_histories() {
         assert_eq!(desk, open_desk());
         for _ in 0..150 {
             if chance.percent(40) {
-                let r = chance.pick(&pool);
+                let r = chance.deeper(&pool);
                 let image = if chance.percent(50) { &mut outer } else { &mut inner };
                 if chance.percent(75) {
                     sasnuvarth::save(image, account_of(r.start), r).ok();
@@ -135,12 +135,9 @@ fn dealt_in_rounds() {
     let mut shares = [0; 16];
     shares[0] = 10;
     let (mut outer, mut inner) = (open_image(&shares), open_image(&shares));
-    let region = |start, end, level| Region { start, end, level, reference: 100 + start };
-    for r in [region(10, 90, 1), region(20, 50, 2), region(30, 40, 3), region(60, 80, 2)] {
-        sasnuvarth::save(&mut outer, 0, r).unwrap();
-    }
+    OUTER.iter().for_each(|r| sasnuvarth::save(&mut outer, 0, *r).unwrap());
     for start in [25, 35, 55, 70, 95] {
-        sasnuvarth::save(&mut inner, 0, region(start, start + 1, 3)).unwrap();
+        sasnuvarth::save(&mut inner, 0, Region { start, end: start + 1, level: 3, reference: 0 }).unwrap();
     }
     let (mut desk, mut buffer) = (Desk::open(), vec![7; 1024]);
     assert_eq!(desk.open_seat(2, 0, Kind::Ancestor, 3), Ok(()));
@@ -162,6 +159,28 @@ fn dealt_in_rounds() {
     assert_eq!(desk.close_seat(2), Ok(()));
     assert_eq!(desk, Desk::open());
     assert_eq!(desk.part(&buffer, 2, 0), Err(Refusal::Seat));
+}
+
+/// A set dealt with itself, by ancestor or self: a round may begin behind a d's own pair, or before it.
+#[test]
+fn dealt_with_self() {
+    let mut shares = [0; 16];
+    shares[0] = 10;
+    let mut set = open_image(&shares);
+    OUTER.iter().for_each(|r| sasnuvarth::save(&mut set, 0, *r).unwrap());
+    let all = [(10, 10), (20, 10), (20, 20), (30, 10), (30, 20), (30, 30), (60, 10), (60, 60)];
+    for limit in 1..=9 {
+        let (mut desk, mut buffer) = (Desk::open(), vec![7; 1024]);
+        assert_eq!(desk.open_seat(5, 0, Kind::AncestorOrSelf, limit), Ok(()));
+        for right in all.chunks(limit as usize).chain([&[][..]]) {
+            let count = desk.round(&set, &set, &mut buffer).unwrap()[5];
+            let handed: Vec<(u32, u32)> = desk.part(&buffer, 5, count).unwrap().chunks_exact(4).map(|q| (q[2], q[0])).collect();
+            assert_eq!(handed, right);
+        }
+        let seat = Seat::Open { account: 0, kind: Kind::AncestorOrSelf, limit, mark: Mark::Last { a: 60, d: 60 } };
+        assert_eq!(desk.seats()[5], seat);
+        assert_eq!(Desk::of(desk.seats()), desk);
+    }
 }
 
 /// Twenty pairs to a seat that was opened with limit 0, to one that asks for nine, and to one from before that has 32 stored.

@@ -4,7 +4,7 @@ ghost use Rattle.index.specs.Opening.{OpensSet};
 ghost use Rattle.index.specs.Changes.{Saves, Deletes};
 ghost use Rattle.queries.specs.Searches.{FindsAncestors, FindsDescendants, FindsChildren};
 ghost use Rattle.queries.specs.Joins.{JoinsSets};
-ghost use Rattle.flat.specs.Numbers.{kindOf};
+ghost use Rattle.flat.specs.Numbers.{kindOf, choiceOfNumber};
 ghost use Rattle.capi.specs.Border.{region, TellsParent};
 ghost use Rattle.capi.specs.Seats.{OpensFlatDesk, OpensFlatSeat, ClosesFlatSeat, RoundsFlat, PartsFlat};
 use flat::FlatDesk;
@@ -86,17 +86,18 @@ pub extern "C" fn sasnuvarth_delete(img: &mut [u32], account: u32, start: u32) -
     index::delete(img, account, start)
 }
 
-// The ancestors of position p.
+// The ancestors of position p, by the choice.
 #[no_mangle]
 pub extern "C" fn sasnuvarth_ancestors(
     img: &[u32],
     account: u32,
     p: u32,
+    choice: u32,
     out: &mut [u32],
 ) -> AncestorsAnswer
-    ensures { λ r. ⌜ FindsAncestors (now (img .entry)) account p (now (out .entry)) (r .number) (r .total) (r .steps) (now (out .exit)) ⌝ }
+    ensures { λ r. ⌜ FindsAncestors (now (img .entry)) account p (choiceOfNumber choice) (now (out .entry)) (r .number) (r .total) (r .steps) (now (out .exit)) ⌝ }
 {
-    let a = queries::find_ancestors(img, account, p, out);
+    let a = queries::find_ancestors(img, account, p, flat::choice_of(choice), out);
     AncestorsAnswer {
         number: a.number,
         total: a.total,

@@ -1,22 +1,20 @@
--- The regions that reach a position are the ancestors of the one before it and the region that starts there: the innermost is the latter, if held, else the last ancestor.
+-- The regions that reach a position are those that hold the one before it, with self: the innermost is the last that a search meets.
 -- Assumes nothing.
 use Prim.Native.Nat.{ℕ, suc, _-_, _<_}
 use mathlib.Core.Path.{_≡_, refl, sym, ap, _∙_}
 use mathlib.Core.Bool.{Bool, true, false, _||_}
-use mathlib.Core.List.{List, [], _∷_, _++_, append-nil}
+use mathlib.Core.List.{List, [], _∷_}
 use lib.Dec.{T, leb, ltb}
 use native.Mathlib.Omega.{arith}
-use native.Mathlib.Decide.{decLt}
-use Rattle.words.specs.Lists.{filter, some, lastOr, All}
-use Rattle.words.proofs.Tests.{by-test}
-use Rattle.words.proofs.Listed.{all-mono, all-every, filter-none, last-append}
-use Rattle.words.proofs.Says.{says-same, says-iff, true-so, so-true, false-so, so-false}
+use Rattle.words.specs.Lists.{filter, some, lastOr}
+use Rattle.words.proofs.Listed.{all-every, filter-none, filter-same}
+use Rattle.words.proofs.Says.{says-same, says-iff, so-false}
 use Rattle.regions.specs.declared.Region.{Region}
-use Rattle.regions.specs.Positions.{holds}
+use Rattle.regions.specs.Positions.{holds, tooLate}
+use Rattle.regions.specs.declared.Choice.the-variants.{WithSelf}
 use Rattle.regions.specs.Sets.{Set, isAt, heldAt, crossed}
 use Rattle.regions.specs.Calls.{ancestors}
-use Rattle.regions.proofs.Means.{holds-says, at-says}
-use Rattle.regions.specs.Sound.{Rising}
+use Rattle.regions.proofs.Means.{holds-says}
 use Rattle.image.specs.Read.{setOf}
 use Rattle.image.specs.Valid.{valid}
 use Rattle.tally.specs.declared.Found.{Found}
@@ -26,64 +24,27 @@ use Rattle.clashes.specs.Reach.{reaches, reach, innermost, endsBy, start
 use Rattle.clashes.proofs.Crossing.{reaches-says, crossing-test}
 use Rattle.clashes.proofs.Starts.{ordered}
 
--- THOSE THAT REACH p + 1, in turn: before p, at p, behind p
-module _ (p : ℕ) where
-  none-reach : (rs : List Region) → All (λ (r : Region). p < r .start) rs → filter (reaches (suc p)) rs ≡ []
-  none-reach rs a = filter-none (reaches (suc p)) rs (all-mono (λ r l. so-false (reaches-says (suc p) r) (λ m. omega arith)) rs a)
-
-  none-hold : (rs : List Region) → All (λ (r : Region). p < r .start) rs → filter (holds p) rs ≡ []
-  none-hold rs a = filter-none (holds p) rs (all-mono (λ r l. so-false (holds-says p r) (λ m. omega arith)) rs a)
-
-  none-at : (rs : List Region) → All (λ (r : Region). p < r .start) rs → filter (isAt p) rs ≡ []
-  none-at rs a = filter-none (isAt p) rs (all-mono (λ r l. so-false (at-says p r) (λ m. omega arith)) rs a)
-
-  pub reach-parts : (rs : List Region) → Rising rs → All (λ (r : Region). r .start < r .end) rs → filter (reaches (suc p)) rs ≡ filter (holds p) rs ++ filter (isAt p) rs
-  unfolding filter
-  reach-parts [] h w = refl
-  reach-parts (x ∷ xs) h w =
-      elim (decLt (x .start) p) [
-        | yes l ↦
-            let same = says-same (reaches-says (suc p) x) (says-iff (holds-says p x) (λ m. (omega arith, omega arith)) (λ m. (l, omega arith))) in
-            let off = so-false (at-says p x) (λ e. omega arith) in
-            let r = reach-parts xs (h .1) (w .1) in
-            by-test (holds p x) (λ e. rw (same, e, off) (ap (x ∷_) r)) (λ e. rw (same, e, off) r)
-        | no l ↦
-            let a = all-mono {Q = λ (y : Region). p < y .start} (λ y k. omega arith) xs (h .0) in
-            let off = so-false (holds-says p x) (λ m. omega arith) in
-            by-test (isAt p x)
-            (λ e.
-            let u = true-so (at-says p x) e in
-            let on = so-true (reaches-says (suc p) x) (omega arith, omega (arith, w .0)) in
-            rw (on, off, e, none-reach xs a, none-hold xs a, none-at xs a))
-            (λ e.
-            let u : (x .start ≡ p → ⊥) = false-so (at-says p x) e in
-            let no-reach = so-false (reaches-says (suc p) x) (λ m. omega arith) in
-            rw (no-reach, off, e, none-reach xs a, none-hold xs a, none-at xs a))
-      ]
-
-pub reach-next : (p : ℕ) (S : Set) → Rising (S .regions) → All (λ (r : Region). r .start < r .end) (S .regions) → reach (suc p) S ≡ ancestors p S ++ filter (isAt p) (S .regions)
-reach-next p S h w = reach-parts p (S .regions) h w
+-- THOSE THAT REACH p + 1 hold p with self
+pub reach-next : (p : ℕ) (S : Set) → reach (suc p) S ≡ ancestors WithSelf p S
+unfolding tooLate
+reach-next p S =
+    filter-same (reaches (suc p)) (holds WithSelf p) (S .regions) (all-every (λ r. says-same (reaches-says (suc p) r) (says-iff (holds-says WithSelf p r) (λ m. m) (λ m. m))) (S .regions))
 
 reach-none : (S : Set) → reach 0 S ≡ []
 reach-none S = filter-none (reaches 0) (S .regions) (all-every (λ r. so-false (reaches-says 0 r) (λ m. omega arith)) (S .regions))
 
--- THE INNERMOST is the last: of an append that of its right part, if there is one
-pub innermost-right : (xs : List Region) (y : Region) → innermost (xs ++ y ∷ []) ≡ y ∷ []
-unfolding innermost lastOr
-innermost-right [] y = refl
-innermost-right (x ∷ xs) y = ap (λ r. r ∷ []) (last-append x xs y [])
-
+-- THE INNERMOST is the last that was met
 last-at : (x : Region) (xs : List Region) → lastFound (At x) xs ≡ At (lastOr x xs)
 unfolding lastFound lastOr
 last-at x [] = refl
 last-at x (y ∷ ys) = last-at y ys
 
-pub last-innermost : (xs : List Region) → foundList (lastFound Nothing xs) ≡ innermost xs
+last-innermost : (xs : List Region) → foundList (lastFound Nothing xs) ≡ innermost xs
 unfolding foundList lastFound innermost
 last-innermost [] = refl
 last-innermost (x ∷ xs) = rw (last-at x xs)
 
-pub last-told : (f : Found) (xs : List Region) → f ≡ lastFound Nothing xs → foundList f ≡ innermost xs
+last-told : (f : Found) (xs : List Region) → f ≡ lastFound Nothing xs → foundList f ≡ innermost xs
 last-told f xs e = ap foundList e ∙ last-innermost xs
 
 -- as the code tells it
@@ -92,25 +53,10 @@ module _ (w : List ℕ) (x : ℕ) where
   unfolding foundList innermost
   reach-zero e = rw (e, reach-none (setOf w))
 
-  module _ (t : T (valid w)) (n : x ≡ 0 → ⊥) where
-    parts : innermost (reach x (setOf w)) ≡ innermost (ancestors (x - 1) (setOf w) ++ filter (isAt (x - 1)) (setOf w .regions))
-    parts =
-        let e : x ≡ suc (x - 1) = omega arith in
-        let o = ordered w t in
-        ap (λ y. innermost (reach y (setOf w))) e ∙ ap innermost (reach-next (x - 1) (setOf w) (o .rising) (o .long))
-
-    pub reach-own : (f : Found) (r : Region) → foundList f ≡ filter (isAt (x - 1)) (setOf w .regions) → f ≡ At r → foundList (At r) ≡ innermost (reach x (setOf w))
-    unfolding foundList
-    reach-own f r e k =
-        let one : filter (isAt (x - 1)) (setOf w .regions) ≡ r ∷ [] = sym e ∙ ap foundList k in
-        sym (parts ∙ ap (λ l. innermost (ancestors (x - 1) (setOf w) ++ l)) one ∙ innermost-right (ancestors (x - 1) (setOf w)) r)
-
-    pub reach-around : (f g : Found) → foundList f ≡ filter (isAt (x - 1)) (setOf w .regions) → f ≡ Nothing → foundList g ≡ innermost (ancestors (x - 1) (setOf w))
-        → foundList g ≡ innermost (reach x (setOf w))
-    unfolding foundList
-    reach-around f g e k a =
-        let none : filter (isAt (x - 1)) (setOf w .regions) ≡ [] = sym e ∙ ap foundList k in
-        a ∙ sym (parts ∙ ap (λ l. innermost (ancestors (x - 1) (setOf w) ++ l)) none ∙ ap innermost (append-nil (ancestors (x - 1) (setOf w))))
+  pub reach-last : (x ≡ 0 → ⊥) → (f : Found) → f ≡ lastFound Nothing (ancestors WithSelf (x - 1) (setOf w)) → foundList f ≡ innermost (reach x (setOf w))
+  reach-last n f e =
+      let next : suc (x - 1) ≡ x = omega arith in
+      last-told f (ancestors WithSelf (x - 1) (setOf w)) e ∙ ap innermost (sym (reach-next (x - 1) (setOf w)) ∙ ap (λ y. reach y (setOf w)) next)
 
 -- THE CROSSING, test by test
 or-true : (a b : Bool) → (a || (true || b)) ≡ true

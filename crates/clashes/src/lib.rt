@@ -5,12 +5,12 @@ ghost use Prim.Native.Nat.{_<_};
 ghost use lib.Dec.{T};
 ghost use Rattle.words.specs.Lists.{filter, some};
 ghost use Rattle.regions.specs.Sets.{isAt, heldAt, crossed, contradicted};
-ghost use Rattle.regions.specs.Calls.{ancestors};
 ghost use Rattle.image.specs.Read.{setOf};
 ghost use Rattle.image.specs.Valid.{valid};
 ghost use Rattle.tally.specs.Tallies.{foundList};
 ghost use Rattle.clashes.specs.Reach.{reach, innermost, endsBy, startsPast, levelFrom};
 use leaves::Step;
+use regions::Choice;
 use regions::Region;
 use tally::Found;
 
@@ -31,18 +31,8 @@ pub fn region_at(img: &[u32], y: u32) -> Found
     Found::At(r)
 }
 
-// The innermost region that holds p strictly. Ancestors are met outermost first, so it is the last; one word has no room for a region, so none is written.
-fn innermost_around(img: &[u32], p: u32) -> Found
-    requires { ⌜ T (valid (now img)) ⌝ }
-    ensures { λ r. ⌜ foundList r ≡ innermost (ancestors p (setOf (now (img .entry)))) ⌝ }
-{
-    let mut no_room = [0u32; 1];
-    let t = search::ancestors(img, p, &mut no_room);
-    let last = t.last;
-    last
-}
-
-// THE INNERMOST REGION THAT REACHES x from the left: start < x ≤ end. Of the position before x it is the region that starts there, else the last ancestor.
+// THE INNERMOST REGION THAT REACHES x from the left: start < x ≤ end, so that it holds the position before x, with self. Ancestors are met outermost first, so it is the
+// last; one word has no room for a region, so none is written.
 pub fn innermost_at(img: &[u32], x: u32) -> Found
     requires { ⌜ T (valid (now img)) ⌝ }
     ensures { λ r. ⌜ foundList r ≡ innermost (reach x (setOf (now (img .entry)))) ⌝ }
@@ -50,12 +40,10 @@ pub fn innermost_at(img: &[u32], x: u32) -> Found
     if x == 0 {
         return Found::Nothing;
     }
-    let p = x - 1;
-    let own = region_at(img, p);
-    let Found::At(r) = own else {
-        return innermost_around(img, p);
-    };
-    Found::At(r)
+    let mut no_room = [0u32; 1];
+    let t = search::ancestors(img, Choice::WithSelf, x - 1, &mut no_room);
+    let last = t.last;
+    last
 }
 
 // Whether one was found.

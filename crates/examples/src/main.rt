@@ -1,5 +1,6 @@
 // Runs the examples of document 01 that are no theorems, and those traps of its source that a run can show. Each is compared with the answer that the document gives
-// (or change request C-15, on levels), and has a line: its name, and `right`, or `wrong` with what came out and what should have.
+// (or a change request: C-15, on levels; C-17, with self), and has a line: its name, and `right`, or `wrong` with what came out and what should have.
+use regions::Choice;
 use regions::Kind;
 use regions::Region;
 use regions::Seat;
@@ -40,10 +41,14 @@ fn delete(img: &mut [u32], start: u32) -> usize {
     words::wide(index::delete(img, 0, start))
 }
 
-fn ancestors(img: &[u32], p: u32) -> usize {
+fn around(img: &[u32], p: u32, choice: Choice) -> usize {
     let mut out = [0u32; 64];
-    let r = queries::find_ancestors(img, 0, p, &mut out);
+    let r = queries::find_ancestors(img, 0, p, choice, &mut out);
     r.total
+}
+
+fn ancestors(img: &[u32], p: u32) -> usize {
+    around(img, p, Choice::Strict)
 }
 
 // The outer set of the document's listing.
@@ -108,10 +113,13 @@ fn full_account(outer: &mut [u32]) {
     check(b"then save (91, 95)", save(outer, 91, 95, 1, 105), 0);
 }
 
-fn join(outer: &[u32], inner: &[u32], out: &mut [u32]) -> usize {
-    let kind = Kind::Ancestor;
+fn join_by(outer: &[u32], inner: &[u32], kind: Kind, out: &mut [u32]) -> usize {
     let r = queries::join_sets(outer, inner, 0, kind, out);
     r.total
+}
+
+fn join(outer: &[u32], inner: &[u32], out: &mut [u32]) -> usize {
+    join_by(outer, inner, Kind::Ancestor, out)
 }
 
 // How many of the first eight pairs have their d at a start.
@@ -197,7 +205,7 @@ fn outer_list_ends(outer: &mut [u32], inner: &mut [u32]) {
 fn outermost_first(outer: &mut [u32]) {
     open_outer(outer, 10);
     let mut out = [0u32; 12];
-    queries::find_ancestors(outer, 0, 35, &mut out);
+    queries::find_ancestors(outer, 0, 35, Choice::Strict, &mut out);
     check(b"the first ancestor of 35", words::wide(out[0]), 10);
     check(b"the second", words::wide(out[4]), 20);
     check(b"the third", words::wide(out[8]), 30);
@@ -210,6 +218,26 @@ fn leaf_ends(outer: &mut [u32]) {
     let mut out = [0u32; 64];
     let d = queries::find_descendants(outer, 0, 5, 1000, 0, &mut out);
     check(b"descendants up to the last leaf's end", d.count, 4);
+}
+
+// With self a region that starts at the position is listed too, as the last, but none that ends there; and a set joined with itself has each region with all around it.
+fn with_self(outer: &mut [u32]) {
+    open_outer(outer, 10);
+    check(
+        b"with self of a start",
+        around(outer, 30, Choice::WithSelf),
+        3,
+    );
+    check(
+        b"with self of an end",
+        around(outer, 40, Choice::WithSelf),
+        2,
+    );
+    let mut out = [0u32; 32];
+    let total = join_by(outer, outer, Kind::AncestorOrSelf, &mut out);
+    check(b"pairs of a set with itself", total, 8);
+    check(b"the last pair's a", words::wide(out[28]), 60);
+    check(b"the last pair's d", words::wide(out[30]), 60);
 }
 
 // One region around a row of forty, whose leaves make keys that stab it.
@@ -252,5 +280,6 @@ fn main() {
     outer_list_ends(&mut outer, &mut inner);
     outermost_first(&mut outer);
     leaf_ends(&mut outer);
+    with_self(&mut outer);
     keys_go(&mut outer);
 }

@@ -9,7 +9,7 @@ use Rattle.regions.specs.declared.Mark.{Mark}
 use Rattle.regions.specs.declared.Open.{Open}
 use Rattle.regions.specs.Desk.{openAt}
 use Rattle.regions.specs.declared.Kind.{Kind}
-use Rattle.regions.specs.declared.Kind.the-variants.{Ancestor, Parent}
+use Rattle.regions.specs.declared.Kind.the-variants.{Ancestor, Parent, AncestorOrSelf}
 use Rattle.regions.specs.declared.Mark.the-variants.{Fresh, Last}
 use Rattle.regions.specs.declared.State.{State}
 use Rattle.regions.specs.declared.State.the-variants.{Closed, Open as Opened}
@@ -51,6 +51,7 @@ pub kind-back : (k : Kind) → kindOf (kindNumber k) ≡ k
 unfolding kindOf kindNumber
 kind-back Ancestor = refl
 kind-back Parent = refl
+kind-back AncestorOrSelf = refl
 
 pub open-back : (account limit : ℕ) (kind : Kind) (m : Mark)
     → seatOf (flatMarked account (kindNumber kind) limit m) ≡ openAt (record { account = account; kind = kind; limit = limit; mark = m })

@@ -4,19 +4,26 @@ use Prim.Native.Nat.{ℕ}
 use mathlib.Core.Bool.{cond}
 use lib.Dec.{eqb}
 use Rattle.regions.specs.Desk.{closed, openAt}
+use Rattle.regions.specs.declared.Choice.{Choice}
+use Rattle.regions.specs.declared.Choice.the-variants.{Strict, WithSelf}
 use Rattle.regions.specs.declared.Kind.{Kind}
-use Rattle.regions.specs.declared.Kind.the-variants.{Ancestor, Parent}
+use Rattle.regions.specs.declared.Kind.the-variants.{Ancestor, Parent, AncestorOrSelf}
 use Rattle.regions.specs.declared.Mark.{Mark}
 use Rattle.regions.specs.declared.Mark.the-variants.{Fresh, Last}
 use Rattle.regions.specs.declared.Seat.{Seat}
 
--- 0 is by ancestor, all else by parent
+-- 0 is by ancestor, 2 by ancestor or self, all else by parent
 unfoldable pub kindOf : ℕ → Kind
-kindOf k = cond (eqb k 0) Ancestor Parent
+kindOf k = cond (eqb k 0) Ancestor (cond (eqb k 2) AncestorOrSelf Parent)
+
+-- 0 is strict, all else with self
+unfoldable pub choiceOfNumber : ℕ → Choice
+choiceOfNumber n = cond (eqb n 0) Strict WithSelf
 
 unfoldable pub kindNumber : Kind → ℕ
 kindNumber Ancestor = 0
 kindNumber Parent = 1
+kindNumber AncestorOrSelf = 2
 
 unfoldable pub markOf : ℕ → ℕ → ℕ → Mark
 markOf marked a d = cond (eqb marked 0) Fresh (Last a d)

@@ -2,22 +2,36 @@
 ghost use mathlib.Core.Path.{_≡_};
 ghost use mathlib.Core.List.{map};
 ghost use Rattle.regions.specs.Numbers.{unless};
-ghost use Rattle.flat.specs.Numbers.{kindOf, kindNumber, markOf, seatOfNumbers};
+ghost use Rattle.flat.specs.Numbers.{kindOf, choiceOfNumber, kindNumber, markOf, seatOfNumbers};
 ghost use Rattle.flat.specs.Seats.{seatOf, flatSeat, flatOpen};
+use regions::Choice;
 use regions::Kind;
 use regions::Mark;
 use regions::Open;
 use regions::Seat;
 use regions::State;
 
-// For whoever has only numbers to hand. A join's kind: 0 is by ancestor, all else by parent.
+// For whoever has only numbers to hand. A join's kind: 0 is by ancestor, 2 by ancestor or self, all else by parent.
 pub fn kind_of(number: u32) -> Kind
     ensures { λ r. ⌜ r ≡ kindOf number ⌝ }
 {
     if number == 0 {
         return Kind::Ancestor;
     }
+    if number == 2 {
+        return Kind::AncestorOrSelf;
+    }
     Kind::Parent
+}
+
+// A search's choice: 0 is strict, all else with self.
+pub fn choice_of(number: u32) -> Choice
+    ensures { λ r. ⌜ r ≡ choiceOfNumber number ⌝ }
+{
+    if number == 0 {
+        return Choice::Strict;
+    }
+    Choice::WithSelf
 }
 
 pub fn kind_number(kind: Kind) -> u32
@@ -26,6 +40,7 @@ pub fn kind_number(kind: Kind) -> u32
     match kind {
         Kind::Ancestor => 0,
         Kind::Parent => 1,
+        Kind::AncestorOrSelf => 2,
     }
 }
 

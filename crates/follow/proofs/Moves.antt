@@ -2,20 +2,23 @@
 -- Assumes nothing.
 use Prim.Native.Nat.{ℕ, suc, _<_, _≤_}
 use mathlib.Core.Path.{_≡_, refl, sym, ap, ap₂, _∙_, subst}
-use mathlib.Core.Bool.{false}
+use mathlib.Core.Bool.{Bool, true, false}
 use mathlib.Core.List.{List, [], _∷_, _++_}
+use lib.Dec.{ltb}
 use lib.ListN.{length}
 use native.Mathlib.Omega.{arith}
 use Rattle.words.specs.Lists.{filter, All}
+use Rattle.words.proofs.Tests.{lt-of, nlt-of}
 use Rattle.words.proofs.Listed.{all-mono, filter-none}
 use Rattle.regions.specs.Limits.{mostAround}
-use Rattle.regions.specs.Positions.{lowest}
+use Rattle.regions.specs.Positions.{lowest, tooLate}
 use Rattle.regions.specs.Sets.{startsFrom}
 use Rattle.regions.specs.Sound.{Wf, Rising, Sound}
 use Rattle.regions.specs.Calls.{regionWords, ancestors}
 use Rattle.regions.specs.declared.Region.{Region}
+use Rattle.regions.specs.declared.Choice.{Choice}
 use Rattle.words.proofs.Says.{true-so, so-false}
-use Rattle.regions.proofs.Means.{formed-says}
+use Rattle.regions.proofs.Means.{formed-says, late-near}
 use Rattle.image.specs.Read.{setOf}
 use Rattle.answers.specs.Items.{writtenFrom}
 use Rattle.answers.proofs.Items.{from-first, from-long}
@@ -29,23 +32,23 @@ use Rattle.leaves.proofs.Faces.{faces-on, faces-end, faced-is}
 use Rattle.tally.specs.declared.Tally.{Tally}
 use Rattle.tally.specs.Tallies.{AncestorsFound}
 use Rattle.stack.specs.Stacks.{heldWords, holdsUpTo, endsBehind, Falling, stacked}
-use Rattle.stack.proofs.Stacks.{upto-says, upto-strict, holders-fall, holders-few, holders-kept, come-all, come-same, First, first-from, come-one, front-few}
+use Rattle.stack.proofs.Stacks.{upto-says, upto-holds, holders-fall, holders-few, holders-kept, come-all, come-same, First, first-from, come-one, front-few}
 use Rattle.stack.proofs.Stacked.{stacked-long, stacked-all}
 use Rattle.follow.specs.declared.Stack.{Stack}
 use Rattle.follow.specs.Places.{Placed, Behind, Coming}
 
 -- A SEARCH: all ancestors have room
-pub refilled : (w : List ℕ) (p n : ℕ) (held held′ : List ℕ) (t : Tally) (c : Cursor) → length held ≡ heldWords → Sound (setOf w)
-    → AncestorsFound (ancestors p (setOf w)) n held held′ t → Faces w c (filter (startsFrom p) (setOf w .regions)) → Placed w p p held′ (record { n = t .total; cur = c })
-refilled w p n held held′ t c l s f faces =
-    let xs = ancestors p (setOf w) in
+pub refilled : (w : List ℕ) (ch : Choice) (p n : ℕ) (held held′ : List ℕ) (t : Tally) (c : Cursor) → length held ≡ heldWords → Sound (setOf w)
+    → AncestorsFound (ancestors ch p (setOf w)) n held held′ t → Faces w c (filter (startsFrom (tooLate ch p)) (setOf w .regions)) → Placed w (tooLate ch p) p held′ (record { n = t .total; cur = c })
+refilled w ch p n held held′ t c l s f faces =
+    let xs = ancestors ch p (setOf w) in
     let is : held′ ≡ writtenFrom regionWords 4 0 held xs = f .words ∙ sym (from-first regionWords 4 held xs) in
-    let same = upto-strict p (setOf w .regions) in
+    let same = upto-holds ch p (setOf w .regions) in
     record {
       long = ap length is ∙ from-long regionWords 4 0 held xs ∙ l;
       stack =
           ap₂ stacked is (f .total)
-          ∙ stacked-all xs held (omega (arith, ap length same, holders-few p p (omega arith) (setOf w) s))
+          ∙ stacked-all xs held (omega (arith, ap length same, holders-few (tooLate ch p) p (late-near ch p .1) (setOf w) s))
           ∙ sym same;
       faces = faces;
     }
@@ -73,11 +76,11 @@ behind-later l k b =
       placed = b .placed;
     }
 
-pub begun : (w : List ℕ) (a y p : ℕ) (held : List ℕ) (c : Cursor) → Sound (setOf w) → length held ≡ heldWords → y ≡ lowest a → lowest a ≤ p → Faces w c (filter (startsFrom y) (setOf w .regions))
-    → Behind w p p held (record { n = 0; cur = c })
+pub begun : (w : List ℕ) (ch : Choice) (a y p : ℕ) (held : List ℕ) (c : Cursor) → Sound (setOf w) → length held ≡ heldWords → y ≡ lowest a → lowest a ≤ p → Faces w c (filter (startsFrom y) (setOf w .regions))
+    → Behind w (tooLate ch p) p held (record { n = 0; cur = c })
 unfolding stacked
-begun w a y p held c s l e h f =
-    behind-later h h
+begun w ch a y p held c s l e h f =
+    behind-later (omega (arith, late-near ch p)) h
     (placed-behind (omega arith) (record { long = l; stack = sym (low-none a (setOf w .regions) (s .formed)); faces = rw e at f }))
 
 -- FROM ONE PLACE TO THE NEXT
@@ -99,7 +102,14 @@ module _ {w : List ℕ} {z p : ℕ} {held : List ℕ} {t : Stack} (b : Behind w 
         faces = b .placed .faces;
       }
 
--- ENTRY BY ENTRY
+-- ENTRY BY ENTRY. The start that is faced comes in time to hold p, or too late
+module _ (ch : Choice) (p s : ℕ) (b : Bool) (st : Step) (e : s ≡ startFaced st) (t : b ≡ ltb s (tooLate ch p)) where
+  pub in-time : b ≡ true → startFaced st < tooLate ch p
+  in-time h = omega (arith, lt-of s (tooLate ch p) (sym t ∙ h))
+
+  pub too-late : b ≡ false → tooLate ch p ≤ startFaced st
+  too-late h = omega (arith, nlt-of s (tooLate ch p) (sym t ∙ h))
+
 module _ {w : List ℕ} {z p : ℕ} {held : List ℕ} {n : ℕ} {c : Cursor} (k : Coming w z p held (record { n = n; cur = c })) (up : Rising (setOf w .regions)) where
   pub arrived : All (λ (r : Region). z ≤ r .start) (filter (startsFrom (k .at)) (setOf w .regions)) → Placed w z p held (record { n = n; cur = c })
   arrived h =
@@ -125,12 +135,17 @@ module _ {w : List ℕ} {z p : ℕ} {held : List ℕ} {n : ℕ} {c : Cursor} (k 
     pub coming-stop : z ≤ e .region .start → Placed w z p held (record { n = n; cur = c })
     coming-stop l = arrived (rw is (all-mono {Q = λ r. z ≤ r .start} (λ r m. omega arith) (e .region ∷ rest) (first .least)))
 
-    pub coming-room : Sound (setOf w) → e .region .start < z → z ≤ suc p → n < mostAround
-    coming-room g l m = omega (arith, front-few (k .at) z p (setOf w) g (e .region) rest first l m, ap length (k .stack), stacked-long held n)
+    -- the start that is faced is its
+    before-bound : startFaced (stepFrom w c) < z → e .region .start < z
+    before-bound l = omega (arith, faced-is (stepFrom w c) e on s)
 
-    pub coming-on : (held′ : List ℕ) (m : ℕ) → e .region .start < z → length held′ ≡ length held → stacked held′ m ≡ stacked held n ++ filter (endsBehind p) (e .region ∷ [])
+    pub coming-room : Sound (setOf w) → startFaced (stepFrom w c) < z → z ≤ suc p → n < mostAround
+    coming-room g u m = omega (arith, front-few (k .at) z p (setOf w) g (e .region) rest first (before-bound u) m, ap length (k .stack), stacked-long held n)
+
+    pub coming-on : (held′ : List ℕ) (m : ℕ) → startFaced (stepFrom w c) < z → length held′ ≡ length held → stacked held′ m ≡ stacked held n ++ filter (endsBehind p) (e .region ∷ [])
         → Coming w z p held′ (record { n = m; cur = on })
-    coming-on held′ m l g h =
+    coming-on held′ m u g h =
+        let l = before-bound u in
         record {
           long = g ∙ k .long;
           at = suc (e .region .start);

@@ -1,25 +1,28 @@
 -- The set that a valid image means has what every set has: its regions ascend, nest, are leveled as they nest and well formed, no account is above its share, and there are at most 500.
--- So among the ancestors of a position no two have the same level, in every valid image.
+-- So among the ancestors of a position no two have the same level, in every valid image; and with self the region that starts there is one more, the last.
 -- Assumes nothing.
 use Prim.Native.Nat.{ℕ, zero, suc, _<_, _≤_}
 use mathlib.Core.Path.{_≡_, ap}
 use mathlib.Core.Bool.{false}
-use mathlib.Core.List.{List}
+use mathlib.Core.List.{List, _++_}
 use lib.Dec.{T, leb, ltb, eqb, leb→le}
 use lib.ListN.{length, length-take, length-drop}
 use native.Mathlib.Omega.{arith}
-use Rattle.words.specs.Lists.{All}
+use Rattle.words.specs.Lists.{filter, All}
 use Rattle.words.proofs.Tests.{T-of, of-T, by-test, and-left, and-right, eq-of, ne-of, eq-no, lt-of, nlt-of}
 use Rattle.words.proofs.Listed.{all-mono, filter-none}
 use Rattle.words.proofs.Says.{all-says, lt-says, pairs-say}
 use Rattle.regions.specs.Positions.{account, wellFormed}
-use Rattle.regions.specs.Sets.{Set, of, heldBy, shareOf}
+use Rattle.regions.specs.Sets.{Set, of, heldBy, shareOf, isAt}
 use Rattle.regions.specs.declared.Region.{Region}
+use Rattle.regions.specs.declared.Choice.{Choice}
+use Rattle.regions.specs.declared.Choice.the-variants.{Strict, WithSelf}
 use Rattle.regions.specs.Calls.{ancestors, parent}
-use Rattle.regions.specs.Sound.{Wf, Rising, Nesting, Leveling, LevelsDiffer, Sound, OneParentEach}
+use Rattle.regions.specs.Sound.{Wf, Rising, Nesting, Leveling, LevelsDiffer, Sound, OneParentEach, EachWithItself}
 use Rattle.regions.proofs.Rising.{nesting-says, leveling-says, few}
 use Rattle.regions.proofs.Chain.{levels-differ, parent-one}
 use Rattle.regions.proofs.Parents.{one-parent-each}
+use Rattle.regions.proofs.Selves.{with-self, each-with-itself}
 use Rattle.xrtree.specs.Rules.{startsFirst, sharesKept}
 use Rattle.pages.specs.Layout.{rootOf, sharesOf}
 use Rattle.image.specs.Read.{depthOf, setOf}
@@ -38,9 +41,20 @@ module _ (w : List ℕ) (v : T (valid w)) where
   pub set-leveled : Leveling (setOf w .regions)
   set-leveled = leveling-says (setOf w .regions) .yes-so (valid-facts w v .level)
 
+  pub set-formed : All Wf (setOf w .regions)
+  set-formed = all-says {p = wellFormed} {M = Wf} (λ r. record { yes-so = of-T (wellFormed r); so-yes = λ e. T-of e }) (setOf w .regions) .yes-so (valid-facts w v .formed)
+
+  -- WITH SELF (change request C-17): the strict ancestors of a position, and behind them the region that starts there, if there is one
+  pub valid-with-self : (p : ℕ) → ancestors WithSelf p (setOf w) ≡ ancestors Strict p (setOf w) ++ filter (isAt p) (setOf w .regions)
+  valid-with-self p = with-self p (setOf w .regions) set-rises set-formed
+
+  -- and the set joined with itself has each region of an account paired with itself, behind its other pairs
+  pub valid-with-itself : (a : ℕ) → EachWithItself (setOf w) a
+  valid-with-itself a = each-with-itself (setOf w) a set-rises set-formed
+
   -- BY LEVELS (change request C-16): no two ancestors of a position have the same, so that a position and a level have at most one parent
-  pub valid-levels-differ : (p : ℕ) → LevelsDiffer (ancestors p (setOf w))
-  valid-levels-differ p = levels-differ (setOf w) p set-rises set-nests set-leveled
+  pub valid-levels-differ : (ch : Choice) (p : ℕ) → LevelsDiffer (ancestors ch p (setOf w))
+  valid-levels-differ ch p = levels-differ (setOf w) p set-rises set-nests set-leveled ch
 
   pub valid-parent-one : (p l : ℕ) → length (parent p l (setOf w)) ≤ 1
   valid-parent-one p l = parent-one (setOf w) p set-rises set-nests set-leveled l
@@ -70,7 +84,7 @@ module _ (w : List ℕ) (small : Small w) (v : T (valid w)) where
   valid-sound =
       let f = valid-facts w v in
       record {
-        formed = all-says {p = wellFormed} {M = Wf} (λ r. record { yes-so = of-T (wellFormed r); so-yes = λ e. T-of e }) (setOf w .regions) .yes-so (f .formed);
+        formed = set-formed w v;
         rising = set-rises w v;
         nesting = set-nests w v;
         leveling = set-leveled w v;

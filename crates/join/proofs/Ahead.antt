@@ -12,22 +12,23 @@ use Rattle.words.specs.Lists.{filter, All}
 use Rattle.words.proofs.Tests.{by-test}
 use Rattle.words.proofs.Listed.{all-mono, all-every, all-map, all-kept, filter-yes, filter-no, filter-all, filter-none, filter-within, none-of, filter-flat}
 use Rattle.words.proofs.Counted.{filter-short}
-use Rattle.regions.specs.Positions.{account, holds, lowest}
+use Rattle.regions.specs.Positions.{account, holds, tooLate, lowest}
 use Rattle.regions.specs.Sets.{Set, of, startsFrom}
-use Rattle.regions.specs.Calls.{Pair, pairsWith, pairOf, pairsOf, joined}
+use Rattle.regions.specs.Calls.{Pair, choiceOf, pairsWith, pairOf, pairsOf, joined}
 use Rattle.regions.specs.Desk.{isPast, past}
 use Rattle.regions.specs.declared.Region.{Region}
 use Rattle.regions.specs.declared.Kind.{Kind}
 use Rattle.regions.specs.declared.Mark.{Mark}
 use Rattle.regions.specs.declared.Mark.the-variants.{Fresh, Last}
-use Rattle.words.proofs.Says.{true-so, so-true, false-so, so-false}
+use Rattle.words.proofs.Says.{lt-says, true-so, so-true, false-so, so-false}
 use Rattle.regions.proofs.Means.{of-says, from-says}
 use Rattle.regions.specs.Sound.{Wf}
 use Rattle.regions.proofs.Local.{holds-account}
 use Rattle.regions.proofs.Joined.{pairs-hold, later-says}
-use Rattle.stack.proofs.Stacks.{upto-strict, holders-skip, from-within, First}
+use Rattle.stack.proofs.Stacks.{upto-holds, holders-skip, from-within, First}
 use Rattle.stack.proofs.Pairs.{pairs-not}
-use Rattle.skips.specs.Joins.{firstPosition, Clear}
+use Rattle.skips.specs.Joins.{firstPosition, Clear, firstHeld}
+use Rattle.skips.proofs.Ways.{held-says, held-far}
 
 -- FROM A POSITION ON
 pub from-all : (rs : List Region) → filter (startsFrom 0) rs ≡ rs
@@ -95,12 +96,12 @@ module _ (xs : List Region) (a : ℕ) (k : Kind) (m : Mark) where
   pairsFrom ds y = flatMap pairsAt (filter (of a) (filter (startsFrom y) ds))
 
   -- none where no outer region holds d's start
-  pairs-none : (d : Region) → filter (holds (d .start)) xs ≡ [] → pairsAt d ≡ []
+  pairs-none : (d : Region) → filter (holds (choiceOf k) (d .start)) xs ≡ [] → pairsAt d ≡ []
   unfolding pairsOf filter
   pairs-none d e =
       ap (λ l. past m (map (pairOf d) l))
       (filter-none (pairsWith k d) (filter (of a) xs)
-      (all-kept (λ x. pairsWith k d x ≡ false) (of a) xs (all-mono {Q = λ x. pairsWith k d x ≡ false} (λ x n. sym (pairs-not k d x n)) xs (none-of (holds (d .start)) xs e))))
+      (all-kept (λ x. pairsWith k d x ≡ false) (of a) xs (all-mono {Q = λ x. pairsWith k d x ≡ false} (λ x n. sym (pairs-not k d x n)) xs (none-of (holds (choiceOf k) (d .start)) xs e))))
 
   -- outer regions of other accounts do not hold a d of this one
   pub pairs-own : (d : Region) → of a d ≡ true → All Wf xs → pairsAt d ≡ past m (pairsOf k xs d)
@@ -110,14 +111,20 @@ module _ (xs : List Region) (a : ℕ) (k : Kind) (m : Mark) where
       (sym
       (filter-within (pairsWith k d) (of a) xs
       (all-mono {Q = λ x. pairsWith k d x ≡ true → of a x ≡ true}
-      (λ x g q. subst (λ (b : ℕ). of b x ≡ true) (true-so (of-says a d) h) (holds-account (d .start) x g (pairs-hold k d x q))) xs f)))
+      (λ x g q. subst (λ (b : ℕ). of b x ≡ true) (true-so (of-says a d) h) (holds-account (choiceOf k) (d .start) x g (pairs-hold k d x q))) xs f)))
 
-  -- THE SKIP: where p has no ancestor and no outer region starts in p .. q - 1, the d's up to q have none
-  pub ahead-skip : (ds : List Region) (p q : ℕ) → filter (holds p) xs ≡ [] → Clear xs p q → pairsFrom ds (suc p) ≡ pairsFrom ds (suc q)
+  -- THE SKIP: where p has no ancestor and no outer region starts from the first on that comes too late for p, up to q, none comes in time for a d before the first that
+  -- what starts at q may hold
+  pub ahead-skip : (ds : List Region) (p q : ℕ) → filter (holds (choiceOf k) p) xs ≡ [] → Clear xs (tooLate (choiceOf k) p) q → pairsFrom ds (suc p) ≡ pairsFrom ds (firstHeld (choiceOf k) q)
   ahead-skip ds p q e c =
-      flat-skip pairsAt (of a) (suc p) (suc q) (omega (arith, c .far)) ds
-      (all-every {P = λ d. of a d ≡ true → suc p ≤ d .start → d .start < suc q → pairsAt d ≡ []}
-      (λ d h u v. pairs-none d (sym (upto-strict (d .start) xs) ∙ holders-skip p p (d .start) (d .start) q xs (upto-strict p xs ∙ e) (c .none) (omega arith) (omega arith))) ds)
+      let ch = choiceOf k in
+      flat-skip pairsAt (of a) (suc p) (firstHeld ch q) (held-far ch p q (c .far)) ds
+      (all-every {P = λ d. of a d ≡ true → suc p ≤ d .start → d .start < firstHeld ch q → pairsAt d ≡ []}
+      (λ d h u v.
+      let late : (q < tooLate ch (d .start) → ⊥) = (λ z. let n = held-says ch q (d .start) .yes-so (lt-says q (tooLate ch (d .start)) .so-yes z) in omega arith) in
+      pairs-none d
+      (sym (upto-holds ch (d .start) xs)
+      ∙ holders-skip (tooLate ch p) p (tooLate ch (d .start)) (d .start) q xs (upto-holds ch p xs ∙ e) (c .none) (omega arith) (omega arith))) ds)
 
   -- the first d is of the account, or of another: then no later one is of it
   pub ahead-own : (ds : List Region) (y : ℕ) (d : Region) (rest : List Region) → First ds y d rest → filter (startsFrom y) ds ≡ d ∷ rest → of a d ≡ true

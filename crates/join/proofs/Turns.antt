@@ -7,24 +7,27 @@ use mathlib.Core.List.{List, [], _∷_, _++_, flatMap}
 use lib.Dec.{ltb}
 use lib.ListN.{length}
 use native.Mathlib.Omega.{arith}
-use Rattle.words.specs.Lists.{filter}
+use Rattle.words.specs.Lists.{filter, All}
 use Rattle.words.proofs.Tests.{by-test, nlt-of}
+use Rattle.words.proofs.Listed.{all-kept}
+use Rattle.words.proofs.Says.{true-so}
 use Rattle.words.proofs.Counted.{filter-short}
-use Rattle.regions.specs.Positions.{account, holds, lowest}
+use Rattle.regions.specs.Positions.{account, holds, tooLate, lowest}
 use Rattle.regions.specs.Sets.{of, startsFrom}
-use Rattle.regions.specs.Calls.{Pair, room, written, countWritten, pairsOf, joined, pairWords}
+use Rattle.regions.specs.Calls.{Pair, room, written, countWritten, choiceOf, pairsOf, joined, pairWords}
 use Rattle.regions.specs.Desk.{past}
 use Rattle.regions.specs.declared.Region.{Region}
 use Rattle.regions.specs.declared.Kind.{Kind}
 use Rattle.regions.specs.declared.Mark.{Mark}
-use Rattle.regions.specs.Sound.{Rising, Sound}
+use Rattle.regions.specs.Sound.{Wf, Rising, Sound}
+use Rattle.regions.proofs.Means.{formed-says, late-near, late-grows}
 use Rattle.regions.proofs.Fits.{count-is}
 use Rattle.image.specs.Read.{setOf}
 use Rattle.answers.specs.Items.{writtenFrom}
 use Rattle.answers.proofs.Items.{from-none, from-full, from-first}
 use Rattle.pairing.specs.Pairs.{counted, PairedUp}
 use Rattle.stack.specs.Stacks.{stacked}
-use Rattle.stack.proofs.Stacks.{upto-strict, First, first-from}
+use Rattle.stack.proofs.Stacks.{upto-holds, First, first-from}
 use Rattle.stack.proofs.Stacked.{stacked-long}
 use Rattle.stack.proofs.Pairs.{paired-long, paired-whole}
 use Rattle.leaves.specs.declared.Entry.{Entry}
@@ -37,8 +40,8 @@ use Rattle.leaves.proofs.Faces.{never, Onward, faces-on, faces-end, faces-long}
 use Rattle.follow.specs.declared.Stack.{Stack}
 use Rattle.follow.specs.Places.{Placed, Behind}
 use Rattle.follow.proofs.Moves.{placed-behind, behind-later, placed-few}
-use Rattle.skips.specs.Joins.{firstPosition, ownStep, Moved}
-use Rattle.skips.proofs.Ways.{clear-next}
+use Rattle.skips.specs.Joins.{firstPosition, ownStep, firstHeld, Moved}
+use Rattle.skips.proofs.Ways.{held-far, clear-next}
 use Rattle.join.specs.Joins.{Joined}
 use Rattle.join.proofs.Moves.{placed-pairs}
 use Rattle.join.proofs.Ahead.{from-fewer, position-low, pairsAt, pairsFrom, pairs-own, ahead-skip, ahead-own, ahead-other, ahead-none, ahead-all}
@@ -96,7 +99,7 @@ pub record Joining (w v : List ℕ) (a : ℕ) (k : Kind) (m : Mark) (all : Bool)
   pub words : writtenFrom pairWords 4 n out (pairsFrom (setOf w .regions) a k m (setOf v .regions) at) ≡ written pairWords 4 out₀ (past m (joined (setOf w) (setOf v) a k))
   pub total : counted all out₀ (n + length (pairsFrom (setOf w .regions) a k m (setOf v .regions) at)) ≡ counted all out₀ (length (past m (joined (setOf w) (setOf v) a k)))
   pub few-total : n + 500 * length (filter (startsFrom at) (setOf v .regions)) ≤ 250000
-  pub stack : Behind w at at held t
+  pub stack : Behind w (tooLate (choiceOf k) at) at held t
 
 -- it begins at the start that the cursor faces
 pub start-low : (v : List ℕ) (a : ℕ) (m : Mark) (c : Cursor) (p : ℕ) → firstPosition a m < 4294967296 → Rising (setOf v .regions) → Faces v c (filter (startsFrom (firstPosition a m)) (setOf v .regions))
@@ -104,7 +107,7 @@ pub start-low : (v : List ℕ) (a : ℕ) (m : Mark) (c : Cursor) (p : ℕ) → f
 start-low v a m c p l up f e = omega (arith, position-low a m, clear-next v (firstPosition a m) p c l up f e .far)
 
 pub join-start : (w v : List ℕ) (a : ℕ) (k : Kind) (m : Mark) (all : Bool) (out : List ℕ) (c : Cursor) (held : List ℕ) (t : Stack) (n p : ℕ) → firstPosition a m < 4294967296
-    → Rising (setOf v .regions) → Faces v c (filter (startsFrom (firstPosition a m)) (setOf v .regions)) → p ≡ startFaced (stepFrom v c) → Behind w p p held t → n ≡ 0
+    → Rising (setOf v .regions) → Faces v c (filter (startsFrom (firstPosition a m)) (setOf v .regions)) → p ≡ startFaced (stepFrom v c) → Behind w (tooLate (choiceOf k) p) p held t → n ≡ 0
     → length (setOf v .regions) ≤ 500 → Joining w v a k m all out c held t out n
 join-start w v a k m all out c held t n p l up f e b z h =
     let y = firstPosition a m in
@@ -171,19 +174,28 @@ module _ {w v : List ℕ} {a : ℕ} {k : Kind} {m : Mark} {all : Bool} {out₀ :
     first : First (setOf v .regions) (j .at) (e .region) (on-from .rest)
     first = first-from (setOf v .regions) (j .at) (e .region) (on-from .rest) up (on-from .is)
 
-    pub join-behind : Behind w (e .region .start) (e .region .start) held t
-    join-behind = behind-later (first .low) (first .low) (j .stack)
+    pub join-behind : Behind w (tooLate (choiceOf k) (e .region .start)) (e .region .start) held t
+    join-behind = behind-later (late-grows (choiceOf k) (j .at) (e .region .start) (first .low)) (first .low) (j .stack)
 
     pub join-onward : Faces v on (filter (startsFrom (suc (e .region .start))) (setOf v .regions))
     join-onward = subst (λ (l : List Region). Faces v on l) (first .others) (on-from .faces)
+
+    -- no region starts at the last position of all, since it has to end behind it
+    pub join-inside : All Wf (setOf v .regions) → All (λ (r : Region). r .start < 4294967296) (setOf v .regions) → suc (e .region .start) < 4294967296
+    join-inside f l =
+        let formed = true-so (formed-says (e .region)) (met Wf f) in
+        omega (arith, formed .order, formed .in-one, met (λ (r : Region). r .start < 4294967296) l)
+      where
+        met : (P : Region → Type 0) → All P (setOf v .regions) → P (e .region)
+        met P h = subst (λ (l : List Region). All P l) (on-from .is) (all-kept P (startsFrom (j .at)) (setOf v .regions) h) .0
 
   pub join-small : n ≤ 250000
   join-small = omega (arith, j .few-total)
 
   -- and its pairs, and on
   module _ (e : Entry) (on : Cursor) (s : ownStep a (stepFrom v c) ≡ Next e on) (held′ : List ℕ) (t′ : Stack) (out′ : List ℕ) (n′ : ℕ) (r : Cursor)
-      (p : Placed w (e .region .start) (e .region .start) held′ t′) (g : PairedUp (stacked held′ (t′ .n)) k m (e .region) all out n out′ n′)
-      (go : Moved (setOf w .regions) v (e .region .start) on (ltb 0 (t′ .n)) r) where
+      (p : Placed w (tooLate (choiceOf k) (e .region .start)) (e .region .start) held′ t′) (g : PairedUp (stacked held′ (t′ .n)) k m (e .region) all out n out′ n′)
+      (go : Moved (choiceOf k) (setOf w .regions) v (e .region .start) on (ltb 0 (t′ .n)) r) where
     -- where the next d is looked for
     pub record Looked : Type 0 where
       pub at : ℕ
@@ -191,9 +203,9 @@ module _ {w v : List ℕ} {a : ℕ} {k : Kind} {m : Mark} {all : Bool} {out₀ :
       pub faces : Faces v r (filter (startsFrom at) (setOf v .regions))
       pub same : ahead (suc (e .region .start)) ≡ ahead at
 
-    none-met : ltb 0 (t′ .n) ≡ false → filter (holds (e .region .start)) (setOf w .regions) ≡ []
+    none-met : ltb 0 (t′ .n) ≡ false → filter (holds (choiceOf k) (e .region .start)) (setOf w .regions) ≡ []
     none-met h =
-        sym (p .stack ∙ upto-strict (e .region .start) (setOf w .regions)) ∙ empty (stacked held′ (t′ .n)) (omega (arith, stacked-long held′ (t′ .n), nlt-of 0 (t′ .n) h))
+        sym (p .stack ∙ upto-holds (choiceOf k) (e .region .start) (setOf w .regions)) ∙ empty (stacked held′ (t′ .n)) (omega (arith, stacked-long held′ (t′ .n), nlt-of 0 (t′ .n) h))
       where
         empty : (xs : List Region) → length xs ≡ 0 → xs ≡ []
         empty [] z = refl
@@ -211,8 +223,8 @@ module _ {w v : List ℕ} {a : ℕ} {k : Kind} {m : Mark} {all : Bool} {out₀ :
         (λ h.
         let k′ = go .skipped h in
         record {
-          at = suc (k′ .reach);
-          far = omega (arith, k′ .clear .far);
+          at = firstHeld (choiceOf k) (k′ .reach);
+          far = held-far (choiceOf k) (e .region .start) (k′ .reach) (k′ .clear .far);
           faces = k′ .faces;
           same = ahead-skip (setOf w .regions) a k m (setOf v .regions) (e .region .start) (k′ .reach) (none-met h) (k′ .clear);
         })
@@ -244,6 +256,8 @@ module _ {w v : List ℕ} {a : ℕ} {k : Kind} {m : Mark} {all : Bool} {out₀ :
           total =
               alike (n′ + length (ahead (next .at))) ∙ both .1 ∙ sym (alike (n + length (qs ++ ahead (next .at))))
               ∙ ap (λ (l : List Pair). counted all out₀ (n + length l)) (sym split) ∙ j .total;
-          few-total = omega (arith, g .few, stacked-long held′ (t′ .n), placed-few (omega arith) p x, j .few-total, fewer);
-          stack = behind-later (omega (arith, next .far)) (omega (arith, next .far)) (placed-behind (omega arith) p);
+          few-total = omega (arith, g .few, stacked-long held′ (t′ .n), placed-few (late-near (choiceOf k) (e .region .start) .1) p x, j .few-total, fewer);
+          stack =
+              behind-later (late-grows (choiceOf k) (d .start) (next .at) (omega (arith, next .far))) (omega (arith, next .far))
+              (placed-behind (late-near (choiceOf k) (d .start) .1) p);
         }

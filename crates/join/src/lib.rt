@@ -1,4 +1,4 @@
-// The join of two sets: for each d of the inner set, in order, the pairs of d with its ancestors in the outer set. The outer regions that hold a place are kept on a stack,
+// The join of two sets: for each d of the inner set, in order, the pairs of d with its ancestors in the outer set, strict or with self. The outer regions that hold a place are kept on a stack,
 // which follows the d's as they ascend; where nothing can pair, neither set is read.
 ghost use mathlib.Core.Path.{_≡_};
 ghost use mathlib.Core.Bool.{cond, _||_};
@@ -63,9 +63,10 @@ fn pairs_from(
     ensures { λ r. ⌜ Joined (past mark (joined (setOf (now (outer .entry))) (setOf (now (inner .entry))) account kind)) all (now (out .entry)) (now (out .exit)) r ⌝ }
 {
     let room = out.len() / 4;
+    let choice = regions::choice_of(kind);
     let mut cursor = first;
     let mut held = [0u32; stack::HELD_WORDS];
-    let mut s = follow::begin(outer, &mut held, account, mark, p);
+    let mut s = follow::begin(outer, &mut held, choice, account, mark, p);
     let mut total: usize = 0;
     while wants_more(total, room, all) {
         let step = skips::own_step(inner, cursor, account);
@@ -73,9 +74,9 @@ fn pairs_from(
             return told(total, room, all);
         };
         let d = entry.region;
-        s = follow::follow(outer, &mut held, s, d.start);
+        s = follow::follow(outer, &mut held, choice, s, d.start);
         total = stack::pair_up(&held, s.n, d, kind, mark, out, total, all);
-        cursor = skips::next_d(outer, inner, d.start, s, on);
+        cursor = skips::next_d(outer, inner, choice, d.start, s, on);
     }
     told(total, room, all)
 }

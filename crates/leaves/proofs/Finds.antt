@@ -13,6 +13,9 @@ use Rattle.words.proofs.Tests.{by-test, and-left, and-right, eq-of, ne-of, lt-y
 use Rattle.words.proofs.Listed.{all-mono, all-right, flat-append, map-append}
 use Rattle.words.proofs.Says.{and-says, eq-says, le-says, all-says}
 use Rattle.words.proofs.Counted.{sum-le, sum-count, sum-at-most, one-at-most}
+use Rattle.regions.specs.Positions.{tooLate}
+use Rattle.regions.specs.declared.Choice.{Choice}
+use Rattle.regions.proofs.Means.{late-near}
 use Rattle.regions.specs.Sets.{startsBefore, startsFrom}
 use Rattle.regions.proofs.Rising.{from-rests}
 use Rattle.xrtree.specs.Tree.{Leaf, regionOf, leaves, listItems, pagePlaces}
@@ -27,7 +30,7 @@ use Rattle.image.proofs.Sound.{set-rises}
 use Rattle.image.proofs.Listings.{leafAt, listedAt}
 use Rattle.path.specs.Path.{downTo}
 use Rattle.leaves.specs.declared.Cursor.{Cursor}
-use Rattle.leaves.specs.Cursors.{entriesOf, entriesIn, boundAt, startsBelow, entryRank, leavesAt, Chain, left, Stands}
+use Rattle.leaves.specs.Cursors.{entriesOf, entriesIn, startsBelow, entryRank, leavesAt, Chain, left, Stands}
 use Rattle.leaves.specs.Cursors.Chain.{done, link}
 use Rattle.leaves.specs.Faces.{Faces}
 use Rattle.leaves.proofs.Whiles.{drop-while-past, drop-while-none, drop-while-in, drop-while-out, drop-while-map}
@@ -87,11 +90,6 @@ linked-right : (xs ys : List Leaf) → T (linked (xs ++ ys)) → T (linked ys)
 unfolding linked
 linked-right [] ys t = t
 linked-right (x ∷ xs) ys t = linked-right xs ys (and-right (eqb (x .next) (firstPlace (xs ++ ys))) _ t)
-
--- the bound of a position is the position or the next one
-bound-near : (own : Bool) (x : ℕ) → (x ≤ boundAt own x) × (boundAt own x ≤ suc x)
-bound-near true x = omega arith
-bound-near false x = omega arith
 
 module _ (w : List ℕ) where
   chain-of : (qs : List ℕ) → T (linked (map (leafAt w) qs)) → All (λ q. 1 ≤ q) qs → All (Full w) qs → Chain w (firstPlace (map (leafAt w) qs)) qs
@@ -153,9 +151,9 @@ module _ (w : List ℕ) where
 
   module _ (t : T (valid w)) where
     -- SEEK: in the leaf where x belongs stands the first entry that does not start before x, or before the place behind it, if it is not the next leaf's first
-    module _ (own : Bool) (x : ℕ) where
+    module _ (ch : Choice) (x : ℕ) where
       abbrev y : ℕ
-      y = boundAt own x
+      y = tooLate ch x
 
       abbrev spot : ℕ
       spot = downTo (depthOf w) w x (rootOf w)
@@ -174,7 +172,7 @@ module _ (w : List ℕ) where
       past =
           ap (dropWhile (startsBelow y)) (seek-leafy .entries)
           ∙ drop-while-past (startsBelow y) (flatMap (entriesIn w) (sides .before)) (entriesIn w spot ++ flatMap (entriesIn w) (sides .behind))
-          (all-mono (λ e a. lt-yes (e .region .start) y (omega (arith, bound-near own x))) (flatMap (entriesIn w) (sides .before)) (sides .low))
+          (all-mono (λ e a. lt-yes (e .region .start) y (omega (arith, late-near ch x))) (flatMap (entriesIn w) (sides .before)) (sides .low))
 
       seek-in : (q r n : ℕ) → q ≡ spot → r ≡ entryRank w q y → n ≡ fillOf (pageOf w q) → r < n
           → Stands w (record { leaf = q; at = r }) (dropWhile (startsBelow y) (entriesOf w))
@@ -197,7 +195,7 @@ module _ (w : List ℕ) where
           let fill : n ≡ fillOf (pageOf w spot) = rw e at f in
           let is : dropWhile (startsBelow y) (entriesOf w) ≡ rest =
           past ∙ drop-while-out (startsBelow y) es rest (omega (arith, entries-in-long w spot))
-          ∙ drop-while-none (startsBelow y) rest (all-mono (λ e a. lt-no (e .region .start) y (omega (arith, bound-near own x))) rest (sides .high)) in
+          ∙ drop-while-none (startsBelow y) rest (all-mono (λ e a. lt-no (e .region .start) y (omega (arith, late-near ch x))) rest (sides .high)) in
           rw (is, g, e) (stands-next (sides .before) spot (sides .behind) seek-leafy)
 
       -- THE REGIONS of the entries are the set's; of those that do not start before y, the set's from y on

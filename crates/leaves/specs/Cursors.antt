@@ -25,10 +25,6 @@ entriesOf w = tree.listed listEntries (depthOf w) (treeOf w)
 unfoldable pub entriesIn : List ℕ → ℕ → List tree.Entry
 entriesIn w p = entriesFrom (pageOf w p) 0 (fillOf (pageOf w p))
 
--- WHERE A WALK BEGINS at a position x: at x where what starts there is asked for, else at the next one
-abbrev pub boundAt : Bool → ℕ → ℕ
-boundAt own x = cond own x (suc x)
-
 -- an entry that starts before y; how many of a leaf's entries stand before the first that does not
 abbrev pub startsBelow : ℕ → tree.Entry → Bool
 startsBelow y e = ltb (e .region .start) y

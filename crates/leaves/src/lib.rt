@@ -1,15 +1,17 @@
 // The entries of a set in order, along the leaves' links: a cursor by value, whose step hands the entry and the cursor moved on.
 ghost use mathlib.Core.Path.{_≡_};
 ghost use Prim.Native.Nat.{suc, _<_, _≤_};
-ghost use lib.Dec.{T, ltb};
+ghost use lib.Dec.{T};
 ghost use Rattle.words.specs.Lists.{filter};
+ghost use Rattle.regions.specs.Positions.{tooLate};
 ghost use Rattle.regions.specs.Sets.{startsFrom};
 ghost use Rattle.pages.specs.Layout.{pageOf, fillOf};
 ghost use Rattle.image.specs.Read.{setOf};
 ghost use Rattle.image.specs.Valid.{valid};
 ghost use Rattle.path.specs.Path.{pathOf, padded};
-ghost use Rattle.leaves.specs.Cursors.{boundAt, entryRank, movedOn, stepFrom, startFaced};
+ghost use Rattle.leaves.specs.Cursors.{entryRank, movedOn, stepFrom, startFaced};
 ghost use Rattle.leaves.specs.Faces.{Faces};
+use regions::Choice;
 use regions::Region;
 
 // A leaf's entry: the region, and whether it stands in a stab list.
@@ -76,25 +78,15 @@ impl Cursor {
     }
 }
 
-// Whether a start stands before x; one at x itself does, unless it is asked for.
-fn is_before(start: u32, x: u32, own: bool) -> bool
-    ensures { λ r. ⌜ r ≡ ltb start (boundAt own x) ⌝ }
-{
-    if own {
-        return start < x;
-    }
-    start <= x
-}
-
-// How many entries of a leaf stand before x.
-fn entry_rank(img: &[u32], leaf: u32, x: u32, own: bool) -> u32
+// How many entries of a leaf start early enough to hold x.
+fn entry_rank(img: &[u32], leaf: u32, choice: Choice, x: u32) -> u32
     requires { ⌜ fillOf (pageOf (now img) leaf) ≤ 8 ⌝ }
-    ensures { λ r. ⌜ r ≡ entryRank (now (img .entry)) leaf (boundAt own x) ⌝ }
+    ensures { λ r. ⌜ r ≡ entryRank (now (img .entry)) leaf (tooLate choice x) ⌝ }
 {
     let n = pages::fill(img, leaf);
     let mut i: u32 = 0;
     while i < n {
-        if !is_before(pages::entry_start(img, leaf, words::wide(i)), x, own) {
+        if !regions::in_time(choice, x, pages::entry_start(img, leaf, words::wide(i))) {
             return i;
         }
         i += 1;
@@ -102,15 +94,16 @@ fn entry_rank(img: &[u32], leaf: u32, x: u32, own: bool) -> u32
     i
 }
 
-// THE CURSOR at the first entry that starts behind x, or (own) at x or behind it, for those who have x's path: in the leaf where x belongs, else the next leaf's first.
-pub fn seek_along(img: &[u32], way: [u32; 4], x: u32, own: bool) -> Cursor
+// THE CURSOR at the first entry that starts too late to hold x, which strictly is at x or behind it and with self behind it, for those who have x's path: in the leaf
+// where x belongs, else the next leaf's first.
+pub fn seek_along(img: &[u32], way: [u32; 4], choice: Choice, x: u32) -> Cursor
     requires { ⌜ T (valid (now img)) ⌝ }
     requires { ⌜ way ≡ padded (pathOf (now img) x) ⌝ }
-    ensures { λ r. ⌜ Faces (now (img .entry)) r (filter (startsFrom (boundAt own x)) (setOf (now (img .entry)) .regions)) ⌝ }
+    ensures { λ r. ⌜ Faces (now (img .entry)) r (filter (startsFrom (tooLate choice x)) (setOf (now (img .entry)) .regions)) ⌝ }
 {
     let depth = path::depth(img);
     let leaf = way[depth];
-    let rank = entry_rank(img, leaf, x, own);
+    let rank = entry_rank(img, leaf, choice, x);
     if rank < pages::fill(img, leaf) {
         Cursor { leaf, at: rank }
     } else {
@@ -126,7 +119,7 @@ pub fn seek(img: &[u32], x: u32) -> Cursor
     requires { ⌜ T (valid (now img)) ⌝ }
     ensures { λ r. ⌜ Faces (now (img .entry)) r (filter (startsFrom (suc x)) (setOf (now (img .entry)) .regions)) ⌝ }
 {
-    seek_along(img, path::descend(img, x), x, false)
+    seek_along(img, path::descend(img, x), Choice::WithSelf, x)
 }
 
 // The cursor at the first entry that starts at y or behind it.
@@ -134,5 +127,5 @@ pub fn seek_from(img: &[u32], y: u32) -> Cursor
     requires { ⌜ T (valid (now img)) ⌝ }
     ensures { λ r. ⌜ Faces (now (img .entry)) r (filter (startsFrom y) (setOf (now (img .entry)) .regions)) ⌝ }
 {
-    seek_along(img, path::descend(img, y), y, true)
+    seek_along(img, path::descend(img, y), Choice::Strict, y)
 }

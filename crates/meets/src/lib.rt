@@ -4,14 +4,23 @@ ghost use Rattle.pages.specs.Layout.{pageOf, fillOf};
 ghost use Rattle.xrtree.specs.Search.{run, cost};
 ghost use Rattle.tally.specs.Tallies.{Tallied, Small};
 ghost use Rattle.meets.specs.PageMet.{heldFrom, lookedFrom, keyIn, listsMet, listsLooked};
+use regions::Choice;
 use tally::Tally;
 use tally::Task;
 
 // Goes along a list of stab records as long as their regions hold p; the record that ends the walk is looked at too.
 // No list of a valid image has 501 records, and no image at all can keep the walk longer.
-fn walk_list(img: &[u32], head: u32, p: u32, task: Task, out: &mut [u32], start: Tally) -> Tally
+fn walk_list(
+    img: &[u32],
+    head: u32,
+    choice: Choice,
+    p: u32,
+    task: Task,
+    out: &mut [u32],
+    start: Tally,
+) -> Tally
     requires { ⌜ Small 40000 start ⌝ }
-    ensures { λ r. ⌜ Tallied task (now (out .entry)) start (heldFrom (now (img .entry)) p 501 head) (lookedFrom (now (img .entry)) p 501 head) (now (out .exit)) r ⌝ }
+    ensures { λ r. ⌜ Tallied task (now (out .entry)) start (heldFrom (now (img .entry)) choice p 501 head) (lookedFrom (now (img .entry)) choice p 501 head) (now (out .exit)) r ⌝ }
 {
     let mut t = start;
     let mut q = head;
@@ -22,7 +31,7 @@ fn walk_list(img: &[u32], head: u32, p: u32, task: Task, out: &mut [u32], start:
         }
         let a = pages::record_region(img, q);
         t = tally::step(t);
-        if !regions::holds(p, a) {
+        if !regions::holds(choice, p, a) {
             return t;
         }
         t = tally::visit(task, a, out, t);
@@ -37,6 +46,7 @@ fn key_list(
     img: &[u32],
     page: u32,
     i: usize,
+    choice: Choice,
     p: u32,
     task: Task,
     out: &mut [u32],
@@ -44,22 +54,20 @@ fn key_list(
 ) -> Tally
     requires { ⌜ i < 9 ⌝ }
     requires { ⌜ Small 40000 t ⌝ }
-    ensures { λ r. ⌜ Tallied task (now (out .entry)) t (run p (keyIn (now (img .entry)) page i)) (cost p (keyIn (now (img .entry)) page i)) (now (out .exit)) r ⌝ }
+    ensures { λ r. ⌜ Tallied task (now (out .entry)) t (run choice p (keyIn (now (img .entry)) page i)) (cost choice p (keyIn (now (img .entry)) page i)) (now (out .exit)) r ⌝ }
 {
     let k = pages::key_words(img, page, i);
-    if p <= k.start {
+    if !regions::spans(choice, p, k.start, k.end) {
         return t;
     }
-    if k.end <= p {
-        return t;
-    }
-    walk_list(img, k.head, p, task, out, t)
+    walk_list(img, k.head, choice, p, task, out, t)
 }
 
 // The lists of an inner page, key by key from the left, up to the first key beyond p, whose list may hold ancestors too. Outer regions stand with lower keys, so they are met first.
 pub fn page_lists(
     img: &[u32],
     page: u32,
+    choice: Choice,
     p: u32,
     task: Task,
     out: &mut [u32],
@@ -67,13 +75,13 @@ pub fn page_lists(
 ) -> Tally
     requires { ⌜ fillOf (pageOf (now img) page) ≤ 8 ⌝ }
     requires { ⌜ Small 30000 start ⌝ }
-    ensures { λ r. ⌜ Tallied task (now (out .entry)) start (listsMet (now (img .entry)) p page) (listsLooked (now (img .entry)) p page) (now (out .exit)) r ⌝ }
+    ensures { λ r. ⌜ Tallied task (now (out .entry)) start (listsMet (now (img .entry)) choice p page) (listsLooked (now (img .entry)) choice p page) (now (out .exit)) r ⌝ }
 {
     let n = words::wide(pages::fill(img, page));
     let mut t = start;
     let mut i: usize = 0;
     while i < n {
-        t = key_list(img, page, i, p, task, out, t);
+        t = key_list(img, page, i, choice, p, task, out, t);
         if p < pages::key_number(img, page, i) {
             return t;
         }

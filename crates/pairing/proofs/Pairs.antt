@@ -8,12 +8,11 @@ use lib.Dec.{ltb}
 use native.Mathlib.Omega.{arith}
 use Rattle.words.specs.Lists.{filter}
 use Rattle.words.proofs.Tests.{and-false, and-true, eq-yes, eq-no, lt-yes, lt-no}
-use Rattle.regions.specs.Positions.{holds, isAbove}
-use Rattle.regions.specs.Calls.{pairsWith, pairOf, pairWords}
+use Rattle.regions.specs.Positions.{holds}
+use Rattle.regions.specs.Calls.{choiceOf, levelFits, pairsWith, pairOf, pairWords}
 use Rattle.regions.specs.Desk.{later, isPast}
 use Rattle.regions.specs.declared.Region.{Region}
 use Rattle.regions.specs.declared.Kind.{Kind}
-use Rattle.regions.specs.declared.Kind.the-variants.{Ancestor, Parent}
 use Rattle.regions.specs.declared.Mark.{Mark}
 use Rattle.regions.specs.declared.Mark.the-variants.{Fresh, Last}
 use Rattle.answers.specs.Items.{writtenFrom}
@@ -43,14 +42,9 @@ pub takes-not : (k : Kind) (m : Mark) (d a : Region) → isPast m (pairOf d a) �
 unfolding paired
 takes-not k m d a e = rw e (sym (and-false (pairsWith k d a)))
 
-module _ (k : Kind) (m : Mark) (d a : Region) (h : holds (d .start) a ≡ true) where
-  pub takes-ancestor : isPast m (pairOf d a) ≡ true → k ≡ Ancestor → true ≡ paired k m d a
-  unfolding paired pairsWith
-  takes-ancestor e f = rw (f, h, e)
-
-  pub takes-parent : isPast m (pairOf d a) ≡ true → k ≡ Parent → isAbove (d .level) a ≡ paired k m d a
-  unfolding paired pairsWith
-  takes-parent e f = rw (f, h, e) (sym (and-true (isAbove (d .level) a)))
+pub takes-fitting : (k : Kind) (m : Mark) (d a : Region) → holds (choiceOf k) (d .start) a ≡ true → isPast m (pairOf d a) ≡ true → levelFits k (d .level) a ≡ paired k m d a
+unfolding paired pairsWith
+takes-fitting k m d a h e = rw (h, e) (sym (and-true (levelFits k (d .level) a)))
 
 module _ {k : Kind} {m : Mark} {d : Region} {out : List ℕ} {n : ℕ} where
   -- one, which is passed by or written

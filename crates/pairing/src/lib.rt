@@ -4,7 +4,7 @@ ghost use mathlib.Core.Bool.{true};
 ghost use mathlib.Core.List.{[], _∷_};
 ghost use Prim.Native.Nat.{_<_};
 ghost use Rattle.regions.specs.Positions.{holds};
-ghost use Rattle.regions.specs.Calls.{pairOf};
+ghost use Rattle.regions.specs.Calls.{choiceOf, pairOf};
 ghost use Rattle.regions.specs.Desk.{isPast};
 ghost use Rattle.pairing.specs.Pairs.{paired, PairedUp};
 use regions::Kind;
@@ -29,21 +29,18 @@ pub fn is_past(mark: Mark, d: Region, a: Region) -> bool
 
 // Whether the pair of d and an a that holds it is asked for: by the kind, and past the mark.
 fn takes(kind: Kind, mark: Mark, d: Region, a: Region) -> bool
-    requires { ⌜ holds (d .start) a ≡ true ⌝ }
+    requires { ⌜ holds (choiceOf kind) (d .start) a ≡ true ⌝ }
     ensures { λ r. ⌜ r ≡ paired kind mark d a ⌝ }
 {
     if !is_past(mark, d, a) {
         return false;
     }
-    match kind {
-        Kind::Ancestor => true,
-        Kind::Parent => regions::is_above(d.level, a),
-    }
+    regions::level_fits(kind, d.level, a)
 }
 
 // The pair of d and an a that holds it, where it is asked for.
 pub fn pair_one(a: Region, d: Region, kind: Kind, mark: Mark, out: &mut [u32], k: usize) -> usize
-    requires { ⌜ (k < 1099511627776) × (holds (d .start) a ≡ true) ⌝ }
+    requires { ⌜ (k < 1099511627776) × (holds (choiceOf kind) (d .start) a ≡ true) ⌝ }
     ensures { λ r. ⌜ PairedUp (a ∷ []) kind mark d true (now (out .entry)) k (now (out .exit)) r ⌝ }
 {
     if !takes(kind, mark, d, a) {

@@ -15,6 +15,7 @@ use Rattle.words.specs.Lists.{filter, some}
 use Rattle.words.proofs.Tests.{by-test, not-false, or-false-left, or-false-right, eq-of, ne-of, cond-same, both-cond}
 use Rattle.words.proofs.Listed.{filter-yes, filter-no}
 use Rattle.regions.specs.declared.Region.{Region}
+use Rattle.regions.specs.declared.Choice.{Choice}
 use Rattle.regions.specs.declared.Open.{Open}
 use Rattle.regions.specs.declared.Seat.{Seat}
 use Rattle.regions.specs.Positions.{account, wellFormed}
@@ -93,10 +94,10 @@ unfolding stateHanded flatMap
 words-at X Y desk i = List·getD-map (handedWords X Y) desk i closed
 
 module _ (so si : List ℕ) (A : ℕ) (s s′ : State) (g : Good so si s) (g′ : Good so si s′) (r : Rel A s s′) where
-  ancestors-same : (w : Which) (a p : ℕ) → (a ≡ A → ⊥) → account p ≡ a → ancestors p (setOf w s) ≡ ancestors p (setOf w s′)
-  ancestors-same w a p n e =
-      ancestors-local (setOf w s) a p (good-set so si w s g .sound .formed) e ∙ ap (ancestors p) (r .sets-apart w a n)
-      ∙ sym (ancestors-local (setOf w s′) a p (good-set so si w s′ g′ .sound .formed) e)
+  ancestors-same : (w : Which) (a : ℕ) (ch : Choice) (p : ℕ) → (a ≡ A → ⊥) → account p ≡ a → ancestors ch p (setOf w s) ≡ ancestors ch p (setOf w s′)
+  ancestors-same w a ch p n e =
+      ancestors-local (setOf w s) a ch p (good-set so si w s g .sound .formed) e ∙ ap (ancestors ch p) (r .sets-apart w a n)
+      ∙ sym (ancestors-local (setOf w s′) a ch p (good-set so si w s′ g′ .sound .formed) e)
 
   parent-same : (w : Which) (a p l : ℕ) → (a ≡ A → ⊥) → account p ≡ a → parent p l (setOf w s) ≡ parent p l (setOf w s′)
   parent-same w a p l n e =
@@ -106,8 +107,8 @@ module _ (so si : List ℕ) (A : ℕ) (s s′ : State) (g : Good so si s) (g′ 
   -- a search of another account is answered alike
   look-same : (a : ℕ) (o : Look) → (a ≡ A → ⊥) → looked a o s ≡ looked a o s′
   unfolding looked
-  look-same a (ancestorSearch w p out) n =
-      cond-same (eqb (pointNo a p) 0) _ _ (refuses (pointNo a p) out) (λ e. ap (lists out) (ancestors-same w a p n (point-done a p (eq-of _ _ e) .same)))
+  look-same a (ancestorSearch w p ch out) n =
+      cond-same (eqb (pointNo a p) 0) _ _ (refuses (pointNo a p) out) (λ e. ap (lists out) (ancestors-same w a ch p n (point-done a p (eq-of _ _ e) .same)))
   look-same a (parentSearch w p l) n =
       cond-same (eqb (pointNo a p) 0) _ _ (says (pointNo a p)) (λ e. ap finds (parent-same w a p l n (point-done a p (eq-of _ _ e) .same)))
   look-same a (descendantSearch w b e f out) n =

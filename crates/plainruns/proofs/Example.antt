@@ -8,10 +8,10 @@ use lib.ListN.{replicate}
 use Rattle.words.specs.Lists.{filter, some, all, lastOr, firstNo, sum}
 use Rattle.regions.specs.declared.Region.{Region}
 use Rattle.regions.specs.declared.Kind.the-variants.{Ancestor}
-use Rattle.regions.specs.Positions.{wellBound, wellFormed, endsBefore, contains, nested, crosses, misleveled, contradicts, holds}
+use Rattle.regions.specs.Positions.{wellBound, wellFormed, endsBefore, contains, nested, crosses, misleveled, contradicts, spans, holds}
 use Rattle.regions.specs.Sets.{emptySet, of, isAt, startsBefore, startsBehind, saved, deleted}
 use Rattle.regions.specs.Numbers.{DONE, REGION, ACCOUNT, HELD, CROSS, LEVEL, SHARE, ABSENT}
-use Rattle.regions.specs.Calls.{foreign, openSetNo, saveNo, deleteNo, pairsWith, pairsOf, joined}
+use Rattle.regions.specs.Calls.{foreign, openSetNo, saveNo, deleteNo, choiceOf, levelFits, pairsWith, pairsOf, joined}
 use Rattle.regions.specs.Desk.{later, isPast, markBehind, markFits, stateFits, deskFits, bufferFits, stateOpen, stateLimit, openSeatNo, stateHanded, stateTurned, poured, roundNo, partNo, part, closed}
 use Rattle.plainruns.specs.Calls.{State, Call, Shown, answer, next, Opened}
 use Rattle.plainruns.specs.Calls.Which.{outer, inner}
@@ -90,11 +90,11 @@ turns : map (λ (x : Shown). x .counts) (answers (round outer inner ∷ round ou
     (0 ∷ 2 ∷ 0 ∷ 0 ∷ 0 ∷ 0 ∷ 0 ∷ 0 ∷ []) ∷
     (0 ∷ 0 ∷ 0 ∷ 0 ∷ 0 ∷ 0 ∷ 0 ∷ 0 ∷ []) ∷
     []
-unfolding answers answer next filter some all lastOr firstNo flatMap wellBound wellFormed endsBefore contains nested crosses misleveled contradicts holds of isAt startsBefore startsBehind saved foreign saveNo pairsWith pairsOf joined later isPast markBehind markFits stateFits deskFits bufferFits stateOpen openSeatNo stateHanded stateTurned poured roundNo
+unfolding answers answer next filter some all lastOr firstNo flatMap wellBound wellFormed endsBefore contains nested crosses misleveled contradicts spans holds of isAt startsBefore startsBehind saved foreign saveNo choiceOf levelFits pairsWith pairsOf joined later isPast markBehind markFits stateFits deskFits bufferFits stateOpen openSeatNo stateHanded stateTurned poured roundNo
 turns = refl
 
 -- two pairs of its part behind the second round
 parts : map (λ (x : Shown). x .words) (answers (askPart 1 2 ∷ []) (after (seated ++ round outer inner ∷ round outer inner ∷ []) start))
     ≡ (20 ∷ 102 ∷ 35 ∷ 2 ∷ 30 ∷ 103 ∷ 35 ∷ 2 ∷ []) ∷ []
-unfolding answers answer next filter some all lastOr firstNo flatMap wellBound wellFormed endsBefore contains nested crosses misleveled contradicts holds of isAt startsBefore startsBehind saved foreign saveNo pairsWith pairsOf joined later isPast markBehind markFits stateFits deskFits bufferFits stateOpen stateLimit openSeatNo stateHanded stateTurned poured roundNo partNo part
+unfolding answers answer next filter some all lastOr firstNo flatMap wellBound wellFormed endsBefore contains nested crosses misleveled contradicts spans holds of isAt startsBefore startsBehind saved foreign saveNo choiceOf levelFits pairsWith pairsOf joined later isPast markBehind markFits stateFits deskFits bufferFits stateOpen stateLimit openSeatNo stateHanded stateTurned poured roundNo partNo part
 parts = refl

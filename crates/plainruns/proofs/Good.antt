@@ -187,7 +187,7 @@ fair-join a = fair-first ((ltb 15 a, ACCOUNT) ∷ []) (omega arith)
 
 fair-look : (a : ℕ) (o : Look) (s : State) → Fair (looked a o s .number)
 unfolding looked
-fair-look a (ancestorSearch w p out) s = fair-unless (pointNo a p) (lists out (ancestors p (setOf w s))) (refuses (pointNo a p) out) (fair-point a p) refl refl
+fair-look a (ancestorSearch w p ch out) s = fair-unless (pointNo a p) (lists out (ancestors ch p (setOf w s))) (refuses (pointNo a p) out) (fair-point a p) refl refl
 fair-look a (parentSearch w p l) s = fair-unless (pointNo a p) (finds (parent p l (setOf w s))) (says (pointNo a p)) (fair-point a p) refl refl
 fair-look a (descendantSearch w b e f out) s = fair-unless (boundsNo a b e) (pages out (descendants b e f (setOf w s))) (refuses (boundsNo a b e) out) (fair-bounds a b e) refl refl
 fair-look a (childSearch w b e l f out) s = fair-unless (boundsNo a b e) (pages out (children b e l f (setOf w s))) (refuses (boundsNo a b e) out) (fair-bounds a b e) refl refl

@@ -311,7 +311,7 @@ no-hands i n x y h k = either (λ (z : Shown). getD (z .hands) i [] ≡ []) (eqb
 
 looks : (i b : ℕ) (o : Look) (s : State) → getD (looked b o s .hands) i [] ≡ []
 unfolding looked
-looks i b (ancestorSearch w p out) s = no-hands i (pointNo b p) (lists out (ancestors p (setOf w s))) (refuses (pointNo b p) out) refl refl
+looks i b (ancestorSearch w p ch out) s = no-hands i (pointNo b p) (lists out (ancestors ch p (setOf w s))) (refuses (pointNo b p) out) refl refl
 looks i b (parentSearch w p l) s = no-hands i (pointNo b p) (finds (parent p l (setOf w s))) (says (pointNo b p)) refl refl
 looks i b (descendantSearch w c d f out) s = no-hands i (boundsNo b c d) (pages out (descendants c d f (setOf w s))) (refuses (boundsNo b c d) out) refl refl
 looks i b (childSearch w c d l f out) s = no-hands i (boundsNo b c d) (pages out (children c d l f (setOf w s))) (refuses (boundsNo b c d) out) refl refl

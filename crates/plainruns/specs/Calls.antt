@@ -10,6 +10,7 @@ use lib.ListN.{length, take, drop, getD, set, replicate}
 use lib.Seq.{sets}
 use Rattle.words.specs.Lists.{filter}
 use Rattle.regions.specs.declared.Region.{Region}
+use Rattle.regions.specs.declared.Choice.{Choice}
 use Rattle.regions.specs.declared.Kind.{Kind}
 use Rattle.regions.specs.declared.Open.{Open}
 use Rattle.regions.specs.declared.State.{State as SeatState}
@@ -48,7 +49,7 @@ withDesk desk buffer wrote s = record { outerSet = s .outerSet; innerSet = s .in
 
 -- THE CALLS. The searches, the join among them; the words lent for an answer come as they are before the call. The account stands in the call
 pub data Look : Type 0 where
-  ancestorSearch : Which → ℕ → List ℕ → Look
+  ancestorSearch : Which → ℕ → Choice → List ℕ → Look
   parentSearch : Which → ℕ → ℕ → Look
   descendantSearch : Which → ℕ → ℕ → ℕ → List ℕ → Look
   childSearch : Which → ℕ → ℕ → ℕ → ℕ → List ℕ → Look
@@ -124,7 +125,7 @@ handsBack ws = record { number = DONE; count = 0; more = false; found = []; coun
 
 -- a search by its account
 unfoldable pub looked : ℕ → Look → State → Shown
-looked a (ancestorSearch w p out) s = unless (pointNo a p) (lists out (ancestors p (setOf w s))) (refuses (pointNo a p) out)
+looked a (ancestorSearch w p ch out) s = unless (pointNo a p) (lists out (ancestors ch p (setOf w s))) (refuses (pointNo a p) out)
 looked a (parentSearch w p l) s = unless (pointNo a p) (finds (parent p l (setOf w s))) (says (pointNo a p))
 looked a (descendantSearch w b e after out) s = unless (boundsNo a b e) (pages out (descendants b e after (setOf w s))) (refuses (boundsNo a b e) out)
 looked a (childSearch w b e l after out) s = unless (boundsNo a b e) (pages out (children b e l after (setOf w s))) (refuses (boundsNo a b e) out)

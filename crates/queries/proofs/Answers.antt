@@ -14,6 +14,7 @@ use Rattle.regions.specs.Limits.{regionWidth, pairWidth}
 use Rattle.regions.specs.Calls.{regionWords, written, countWritten, moreRemain, foreign, pointNo, boundsNo, ancestors, parent, pairWords, joinNo, joined}
 use Rattle.regions.specs.declared.Region.{Region}
 use Rattle.regions.specs.Desk.{past}
+use Rattle.regions.specs.declared.Choice.{Choice}
 use Rattle.regions.specs.declared.Kind.{Kind}
 use Rattle.regions.specs.declared.Mark.the-variants.{Fresh}
 use Rattle.regions.proofs.Joined.{past-fresh}
@@ -38,12 +39,12 @@ unfolding pointNo firstNo
 point-own a p e = rw e
 
 -- ANCESTORS
-pub ancestors-refused : (w : List ℕ) (a p : ℕ) (out : List ℕ) (n : ℕ) → (n ≡ 0 → ⊥) → n ≡ imageFirst (valid w) (pointNo a p) → FindsAncestors w a p out n 0 0 out
-ancestors-refused w a p out n h e = record { number-is = e; refused = λ z. (refl, refl, refl); done = λ z. absurd (h z) }
+pub ancestors-refused : (w : List ℕ) (a p : ℕ) (ch : Choice) (out : List ℕ) (n : ℕ) → (n ≡ 0 → ⊥) → n ≡ imageFirst (valid w) (pointNo a p) → FindsAncestors w a p ch out n 0 0 out
+ancestors-refused w a p ch out n h e = record { number-is = e; refused = λ z. (refl, refl, refl); done = λ z. absurd (h z) }
 
-pub ancestors-found : (w : List ℕ) (a p : ℕ) (out out′ : List ℕ) (total made : ℕ) → valid w ≡ true → foreign a p ≡ false → total ≡ length (ancestors p (setOf w)) → made ≡ stepCount w p
-    → out′ ≡ written regionWords regionWidth out (ancestors p (setOf w)) → FindsAncestors w a p out 0 total made out′
-ancestors-found w a p out out′ total made v f t s o =
+pub ancestors-found : (w : List ℕ) (a p : ℕ) (ch : Choice) (out out′ : List ℕ) (total made : ℕ) → valid w ≡ true → foreign a p ≡ false → total ≡ length (ancestors ch p (setOf w)) → made ≡ stepCount w ch p
+    → out′ ≡ written regionWords regionWidth out (ancestors ch p (setOf w)) → FindsAncestors w a p ch out 0 total made out′
+ancestors-found w a p ch out out′ total made v f t s o =
     record { number-is = own-number (valid w) 0 (pointNo a p) v (point-own a p f); refused = λ z. absurd (z refl); done = λ z. (t, s, o) }
 
 -- PARENT: what the search found, by its two cases

@@ -8,15 +8,16 @@ use lib.Dec.{eqb}
 use Rattle.words.specs.Lists.{some}
 use Rattle.words.proofs.Tests.{either-way}
 use Rattle.regions.specs.declared.Region.{Region}
+use Rattle.regions.specs.declared.Choice.{Choice}
 use Rattle.regions.specs.declared.Kind.{Kind}
 use Rattle.queries.specs.Searches.{FindsAncestors, parentNumber, parentFound, isRefusal, FindsParent, Lists}
 use Rattle.queries.specs.Joins.{JoinsSets}
 use Rattle.queries.specs.declared.Parent.{Parent}
 use Rattle.queries.specs.declared.Parent.the-variants.{Refused, Nothing, At}
 
-pub ancestors-once : (w : List ℕ) (a p : ℕ) (out : List ℕ) (m n s t i j : ℕ) (u v : List ℕ) → FindsAncestors w a p out m s i u → FindsAncestors w a p out n t j v
+pub ancestors-once : (w : List ℕ) (a p : ℕ) (ch : Choice) (out : List ℕ) (m n s t i j : ℕ) (u v : List ℕ) → FindsAncestors w a p ch out m s i u → FindsAncestors w a p ch out n t j v
     → (m ≡ n) × (s ≡ t) × (i ≡ j) × (u ≡ v)
-ancestors-once w a p out m n s t i j u v x y =
+ancestors-once w a p ch out m n s t i j u v x y =
     let e : m ≡ n = x .number-is ∙ sym (y .number-is) in
     either-way m n e
     (λ c d. (e, x .done c .0 ∙ sym (y .done d .0), x .done c .1 ∙ sym (y .done d .1), x .done c .2 ∙ sym (y .done d .2)))

@@ -10,6 +10,7 @@ use Rattle.regions.specs.Numbers.{imageFirst}
 use Rattle.regions.specs.Limits.{regionWidth}
 use Rattle.regions.specs.Calls.{regionWords, written, countWritten, moreRemain, pointNo, boundsNo, ancestors, parent, descendants, children}
 use Rattle.regions.specs.declared.Region.{Region}
+use Rattle.regions.specs.declared.Choice.{Choice}
 use Rattle.xrtree.specs.Search.{steps}
 use Rattle.image.specs.Read.{depthOf, treeOf, setOf}
 use Rattle.image.specs.Valid.{valid}
@@ -17,14 +18,15 @@ use Rattle.queries.specs.declared.Parent.{Parent}
 use Rattle.queries.specs.declared.Parent.the-variants.{Refused, Nothing, At}
 
 -- the step count reads the image that it is given
-abbrev pub stepCount : List ℕ → ℕ → ℕ
-stepCount w p = steps (depthOf w) p (treeOf w)
+abbrev pub stepCount : List ℕ → Choice → ℕ → ℕ
+stepCount w ch p = steps (depthOf w) ch p (treeOf w)
 
-pub record FindsAncestors (w : List ℕ) (account p : ℕ) (out : List ℕ) (number total stepsMade : ℕ) (out′ : List ℕ) : Type 0 where
+-- by the choice, strict or with self (change request C-17)
+pub record FindsAncestors (w : List ℕ) (account p : ℕ) (choice : Choice) (out : List ℕ) (number total stepsMade : ℕ) (out′ : List ℕ) : Type 0 where
   pub number-is : number ≡ imageFirst (valid w) (pointNo account p)
   pub refused : (number ≡ 0 → ⊥) → (total ≡ 0) × (stepsMade ≡ 0) × (out′ ≡ out)
   pub done : number ≡ 0
-      → (total ≡ length (ancestors p (setOf w))) × (stepsMade ≡ stepCount w p) × (out′ ≡ written regionWords regionWidth out (ancestors p (setOf w)))
+      → (total ≡ length (ancestors choice p (setOf w))) × (stepsMade ≡ stepCount w choice p) × (out′ ≡ written regionWords regionWidth out (ancestors choice p (setOf w)))
 
 -- the parent search's answer: its number, and none or one region
 unfoldable pub parentNumber : Parent → ℕ

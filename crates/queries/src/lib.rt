@@ -5,6 +5,7 @@ ghost use Rattle.regions.specs.Calls.{boundsNo};
 ghost use Rattle.image.specs.Valid.{valid};
 ghost use Rattle.queries.specs.Joins.{JoinsSets};
 ghost use Rattle.queries.specs.Searches.{FindsAncestors, FindsParent, FindsDescendants, FindsChildren};
+use regions::Choice;
 use regions::Kind;
 use regions::Mark;
 use regions::Region;
@@ -37,9 +38,15 @@ pub enum Parent {
     At(Region),
 }
 
-// The ancestors of position p, outermost first: as many as fit, their total, and the steps that the search made.
-pub fn find_ancestors(img: &[u32], account: u32, p: u32, out: &mut [u32]) -> Ancestors
-    ensures { λ r. ⌜ FindsAncestors (now (img .entry)) account p (now (out .entry)) (r .number) (r .total) (r .steps) (now (out .exit)) ⌝ }
+// The ancestors of position p, strictly or with self, outermost first: as many as fit, their total, and the steps that the search made.
+pub fn find_ancestors(
+    img: &[u32],
+    account: u32,
+    p: u32,
+    choice: Choice,
+    out: &mut [u32],
+) -> Ancestors
+    ensures { λ r. ⌜ FindsAncestors (now (img .entry)) account p choice (now (out .entry)) (r .number) (r .total) (r .steps) (now (out .exit)) ⌝ }
 {
     if !audit::is_valid(img) {
         return Ancestors {
@@ -55,7 +62,7 @@ pub fn find_ancestors(img: &[u32], account: u32, p: u32, out: &mut [u32]) -> Anc
             steps: 0,
         };
     }
-    let t = search::ancestors(img, p, out);
+    let t = search::ancestors(img, choice, p, out);
     Ancestors {
         number: 0,
         total: t.total,
@@ -63,7 +70,7 @@ pub fn find_ancestors(img: &[u32], account: u32, p: u32, out: &mut [u32]) -> Anc
     }
 }
 
-// The ancestor of p whose level is one less than the given one, or none: there is never a second one.
+// The strict ancestor of p whose level is one less than the given one, or none: there is never a second one.
 pub fn find_parent(img: &[u32], account: u32, p: u32, level: u32) -> Parent
     ensures { λ r. ⌜ FindsParent (now (img .entry)) account p level r ⌝ }
 {

@@ -1,4 +1,4 @@
--- Document 01's P1 to P12, C-15's levels and C-13's limits: the definitions give each answer, by computing it.
+-- Document 01's P1 to P12, C-17's choice, C-15's levels and C-13's limits: the definitions give each answer, by computing it.
 -- Assumes nothing.
 use Prim.Native.Nat.{ℕ}
 use mathlib.Core.Path.{_≡_, refl}
@@ -6,18 +6,30 @@ use mathlib.Core.Bool.{true, false}
 use mathlib.Core.List.{[], _∷_, map}
 use lib.ListN.{replicate}
 use Rattle.words.specs.Lists.{filter, some, all, firstNo}
+use Rattle.regions.specs.declared.Region.{Region}
+use Rattle.regions.specs.declared.Choice.the-variants.{WithSelf}
 use Rattle.regions.specs.declared.Kind.the-variants.{Ancestor}
 use Rattle.regions.specs.declared.Mark.the-variants.{Fresh}
-use Rattle.regions.specs.Positions.{wellBound, wellFormed, endsBefore, contains, nested, crosses, misleveled, contradicts, holds, inside, isAbove}
+use Rattle.regions.specs.Positions.{wellBound, wellFormed, endsBefore, contains, nested, crosses, misleveled, contradicts, spans, holds, inside, isAbove}
 use Rattle.regions.specs.Sets.{of, isAt, startsBehind}
 use Rattle.regions.specs.Numbers.{DONE, LIMIT, LEVEL}
-use Rattle.regions.specs.Calls.{foreign, saveNo, pointNo, boundsNo}
+use Rattle.regions.specs.Calls.{foreign, saveNo, pointNo, ancestors, parent, boundsNo}
 use Rattle.regions.specs.Desk.{markFits, stateFits, seatFits, deskFits, stateOpen, closed, openAt, limitAsked, openSeatNo}
 use Rattle.regions.specs.Bench.{region, benchSet, ask, questions, answers}
 
 pub bench : map ask questions ≡ answers
-unfolding filter some firstNo wellBound wellFormed endsBefore contains nested crosses misleveled contradicts holds inside isAbove of isAt startsBehind foreign saveNo pointNo boundsNo ask
+unfolding filter some firstNo wellBound wellFormed endsBefore contains nested crosses misleveled contradicts spans holds inside isAbove of isAt startsBehind foreign saveNo pointNo boundsNo ask
 bench = refl
+
+-- with self (C-17) at a start, an end, the first start and the last end: what starts there is listed, as the last, and what ends there is not
+pub selves-told : map (λ (p : ℕ). map (λ (r : Region). r .start) (ancestors WithSelf p benchSet)) (30 ∷ 40 ∷ 10 ∷ 90 ∷ []) ≡ (10 ∷ 20 ∷ 30 ∷ []) ∷ (10 ∷ 20 ∷ []) ∷ (10 ∷ []) ∷ [] ∷ []
+unfolding filter spans holds
+selves-told = refl
+
+-- a parent is always strict: of level 4 there is one at 35, and none at 30, where that one starts
+pub parents-told : map (λ (p : ℕ). map (λ (r : Region). r .start) (parent p 4 benchSet)) (35 ∷ 30 ∷ []) ≡ (30 ∷ []) ∷ [] ∷ []
+unfolding filter spans holds isAbove
+parents-told = refl
 
 -- levels: around all four none is left to take, since 1 is the least; within (30, 40), which has 3, a 3 contradicts and a 4 does not; and around (20, 50), which has 2, a 2 does
 pub levels-told : map (saveNo benchSet 0) (region 5 95 1 0 ∷ region 31 39 3 0 ∷ region 31 39 4 0 ∷ region 15 55 2 0 ∷ []) ≡ LEVEL ∷ LEVEL ∷ DONE ∷ LEVEL ∷ []

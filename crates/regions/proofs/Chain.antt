@@ -12,12 +12,13 @@ use Rattle.words.specs.Lists.{filter, All, Pairs}
 use Rattle.words.proofs.Listed.{all-mono, all-kept, pairs-mono, pairs-filter, pairs-kept, none-two, pairs-two}
 use Rattle.words.proofs.Says.{true-so, so-true}
 use Rattle.regions.specs.declared.Region.{Region}
+use Rattle.regions.specs.declared.Choice.{Choice}
 use Rattle.regions.specs.Limits.{mostAround}
 use Rattle.regions.specs.Positions.{nested, contains, leveled, holds, isAbove}
 use Rattle.regions.specs.Sets.{Set}
 use Rattle.regions.specs.Calls.{ancestors, parent}
 use Rattle.regions.specs.Sound.{Wf, Rising, Nesting, Leveling, LevelsDiffer, Sound}
-use Rattle.regions.proofs.Means.{holds-says, above-says, contains-says, nested-in-turn, formed-says, leveled-in-turn}
+use Rattle.regions.proofs.Means.{late-near, holds-says, above-says, contains-says, nested-in-turn, formed-says, leveled-in-turn}
 
 abbrev pub Inward : List Region → Type 0
 Inward rs = Pairs (λ x y. contains x y ≡ true) rs
@@ -30,9 +31,9 @@ together-inward q f rs h k =
     turn : (x y : Region) → T (q x) → T (q y) → (x .start < y .start) × (nested x y ≡ true) → contains x y ≡ true
     turn x y tx ty m = so-true (contains-says x y) (m .0, true-so (nested-in-turn x y (m .0) (f y y ty ty)) (m .1) (f x y tx ty))
 
-pub ancestors-inward : (S : Set) (p : ℕ) → Rising (S .regions) → Nesting (S .regions) → Inward (ancestors p S)
-ancestors-inward S p h k =
-    together-inward (holds p) (λ x y a b. let u = holds-says p x .yes-so a in let v = holds-says p y .yes-so b in omega arith) (S .regions) h k
+pub ancestors-inward : (S : Set) (ch : Choice) (p : ℕ) → Rising (S .regions) → Nesting (S .regions) → Inward (ancestors ch p S)
+ancestors-inward S ch p h k =
+    together-inward (holds ch p) (λ x y a b. let u = holds-says ch p x .yes-so a in let v = holds-says ch p y .yes-so b in omega (arith, late-near ch p)) (S .regions) h k
 
 -- LEVELS RISE INWARDS: of regions that lie one in the other each has a level above those of all around it
 abbrev pub Deepening : List Region → Type 0
@@ -60,16 +61,16 @@ around-few S g q h =
 
 -- THE ANCESTORS OF A POSITION, of regions that ascend, nest and are leveled as they nest
 module _ (S : Set) (p : ℕ) (h : Rising (S .regions)) (k : Nesting (S .regions)) (l : Leveling (S .regions)) where
-  pub levels-rise : Deepening (ancestors p S)
-  levels-rise = deepens (ancestors p S) (ancestors-inward S p h k) (pairs-kept (λ x y. leveled x y ≡ true) (holds p) (S .regions) l)
+  pub levels-rise : (ch : Choice) → Deepening (ancestors ch p S)
+  levels-rise ch = deepens (ancestors ch p S) (ancestors-inward S ch p h k) (pairs-kept (λ x y. leveled x y ≡ true) (holds ch p) (S .regions) l)
 
   -- hence no level twice
-  pub levels-differ : LevelsDiffer (ancestors p S)
-  levels-differ = pairs-mono (λ x y m e. omega arith) (ancestors p S) levels-rise
+  pub levels-differ : (ch : Choice) → LevelsDiffer (ancestors ch p S)
+  levels-differ ch = pairs-mono (λ x y m e. omega arith) (ancestors ch p S) (levels-rise ch)
 
   -- and a test that only one level passes lets at most one through, as a parent's does
-  pub one-of-level : (v : ℕ) (q : Region → Bool) → ((x : Region) → T (q x) → x .level + 1 ≡ v) → length (filter q (ancestors p S)) ≤ 1
-  one-of-level v q f = none-two (filter q (ancestors p S)) (pairs-filter {S = λ x y. ⊥} q (λ x y a b m. m (omega (arith, f x a, f y b))) (ancestors p S) levels-differ)
+  pub one-of-level : (ch : Choice) (v : ℕ) (q : Region → Bool) → ((x : Region) → T (q x) → x .level + 1 ≡ v) → length (filter q (ancestors ch p S)) ≤ 1
+  one-of-level ch v q f = none-two (filter q (ancestors ch p S)) (pairs-filter {S = λ x y. ⊥} q (λ x y a b m. m (omega (arith, f x a, f y b))) (ancestors ch p S) (levels-differ ch))
 
   pub parent-one : (v : ℕ) → length (parent p v S) ≤ 1
-  parent-one v = one-of-level v (isAbove v) (λ x t. above-says v x .yes-so t)
+  parent-one v = one-of-level _ v (isAbove v) (λ x t. above-says v x .yes-so t)

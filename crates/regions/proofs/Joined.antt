@@ -13,12 +13,11 @@ use Rattle.words.proofs.Listed.{all-mono, all-two, all-every, all-let, all-kept
 use Rattle.words.proofs.Says.{Says, and-says, eq-says, lt-says, or-says, true-so, so-true}
 use Rattle.regions.specs.declared.Region.{Region}
 use Rattle.regions.specs.declared.Kind.{Kind}
-use Rattle.regions.specs.declared.Kind.the-variants.{Ancestor, Parent}
 use Rattle.regions.specs.declared.Mark.{Mark}
 use Rattle.regions.specs.declared.Mark.the-variants.{Fresh, Last}
 use Rattle.regions.specs.Positions.{holds}
 use Rattle.regions.specs.Sets.{Set, of}
-use Rattle.regions.specs.Calls.{Pair, pairsWith, pairOf, pairsOf, joined}
+use Rattle.regions.specs.Calls.{Pair, choiceOf, pairsWith, pairOf, pairsOf, joined}
 use Rattle.regions.specs.Desk.{later, isPast, past, markBehind, markFits}
 use Rattle.regions.proofs.Means.{of-says}
 use Rattle.regions.specs.Sound.{Rising, Then, Ascending}
@@ -29,10 +28,9 @@ pub record Joins (a : ℕ) (k : Kind) (q : Pair) : Type 0 where
   pub inner : of a (q .d) ≡ true
   pub fit : pairsWith k (q .d) (q .a) ≡ true
 
-pub pairs-hold : (k : Kind) (d a : Region) → pairsWith k d a ≡ true → holds (d .start) a ≡ true
+pub pairs-hold : (k : Kind) (d a : Region) → pairsWith k d a ≡ true → holds (choiceOf k) (d .start) a ≡ true
 unfolding pairsWith
-pairs-hold Ancestor d a h = h
-pairs-hold Parent d a h = of-T _ (and-left (holds (d .start) a) _ (T-of h))
+pairs-hold k d a h = of-T _ (and-left (holds (choiceOf k) (d .start) a) _ (T-of h))
 
 pub joined-joins : (X Y : Set) (a : ℕ) (k : Kind) → All (Joins a k) (joined X Y a k)
 unfolding joined pairsOf

@@ -7,6 +7,7 @@ pub mod Rising
 pub mod Chain
 pub mod Joined
 pub mod Parents
+pub mod Selves
 pub mod Fits
 pub mod Seats
 pub mod Shares

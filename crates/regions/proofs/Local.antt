@@ -14,13 +14,14 @@ use Rattle.words.proofs.Tests.{not-false, first-else}
 use Rattle.words.proofs.Listed.{all-mono, all-every, all-let, filter-append, filter-all, filter-none, filter-comm, filter-within, filter-twice}
 use Rattle.words.proofs.Says.{true-so, so-true, so-false}
 use Rattle.regions.specs.declared.Region.{Region}
+use Rattle.regions.specs.declared.Choice.{Choice}
 use Rattle.regions.specs.declared.Kind.{Kind}
 use Rattle.regions.specs.Positions.{document, account, wellBound, wellFormed, crosses, contradicts, holds, inside, isAbove, isBelow}
 use Rattle.regions.specs.Sets.{Set, of, only, heldBy, shareOf, isAt, heldAt, crossed, contradicted, startsBefore, startsBehind, saved, isNotAt, deleted}
 use Rattle.regions.specs.Numbers.{REGION, ACCOUNT, HELD, CROSS, LEVEL, SHARE, ABSENT}
 use Rattle.regions.specs.Sound.{Wf}
 use Rattle.regions.specs.Calls.{foreign, saveNo, deleteNo, ancestors, parent, descendants, children, pairsOf, joined}
-use Rattle.regions.proofs.Means.{Formed, formed-says, bound-says, foreign-says, crosses-says, Misleveled, contradicts-says, holds-says, inside-says, of-says, at-says, before-says, behind-says}
+use Rattle.regions.proofs.Means.{Formed, formed-says, bound-says, foreign-says, crosses-says, Misleveled, contradicts-says, late-near, holds-says, inside-says, of-says, at-says, before-says, behind-says}
 
 -- POSITIONS AND REGIONS OF ONE ACCOUNT
 pub one-account : (p q : ℕ) → document p ≡ document q → account p ≡ account q
@@ -48,11 +49,11 @@ contradicts-account r x hr hx h = so-true (of-says (account (r .start)) x) (one-
     one f g (inl c) = omega arith
     one f g (inr c) = omega arith
 
-pub holds-account : (p : ℕ) (x : Region) → Wf x → holds p x ≡ true → of (account p) x ≡ true
-holds-account p x hx h =
+pub holds-account : (ch : Choice) (p : ℕ) (x : Region) → Wf x → holds ch p x ≡ true → of (account p) x ≡ true
+holds-account ch p x hx h =
     let g = wf x hx in
-    let c = true-so (holds-says p x) h in
-    so-true (of-says (account p) x) (one-account (x .start) p (omega arith))
+    let c = true-so (holds-says ch p x) h in
+    so-true (of-says (account p) x) (one-account (x .start) p (omega (arith, late-near ch p)))
 
 pub inside-account : (s e : ℕ) (x : Region) → wellBound s e ≡ true → inside s e x ≡ true → of (account s) x ≡ true
 inside-account s e x hb h =
@@ -95,13 +96,13 @@ delete-local S a s =
     let h : heldAt s S ≡ heldAt s (only a S) = subst (λ (b : ℕ). heldAt s S ≡ heldAt s (only b S)) (own a s f) (held-local S s) in
     ap (λ (z : Bool). firstNo ((not z, ABSENT) ∷ [])) h)
 
-pub ancestors-local : (S : Set) (a p : ℕ) → All Wf (S .regions) → account p ≡ a → ancestors p S ≡ ancestors p (only a S)
-ancestors-local S a p hs e =
-    subst (λ (b : ℕ). ancestors p S ≡ ancestors p (only b S)) e
-    (filter-within (holds p) (of (account p)) (S .regions) (all-mono (λ x hx. holds-account p x hx) (S .regions) hs))
+pub ancestors-local : (S : Set) (a : ℕ) (ch : Choice) (p : ℕ) → All Wf (S .regions) → account p ≡ a → ancestors ch p S ≡ ancestors ch p (only a S)
+ancestors-local S a ch p hs e =
+    subst (λ (b : ℕ). ancestors ch p S ≡ ancestors ch p (only b S)) e
+    (filter-within (holds ch p) (of (account p)) (S .regions) (all-mono (λ x hx. holds-account ch p x hx) (S .regions) hs))
 
 pub parent-local : (S : Set) (a p l : ℕ) → All Wf (S .regions) → account p ≡ a → parent p l S ≡ parent p l (only a S)
-parent-local S a p l hs e = ap (filter (isAbove l)) (ancestors-local S a p hs e)
+parent-local S a p l hs e = ap (filter (isAbove l)) (ancestors-local S a _ p hs e)
 
 pub descendants-local : (S : Set) (a s e after : ℕ) → wellBound s e ≡ true → account s ≡ a → descendants s e after S ≡ descendants s e after (only a S)
 descendants-local S a s e after hb h =

@@ -10,7 +10,9 @@ use native.Mathlib.Decide.{decLe, ℕ-discrete}
 use Rattle.words.specs.Lists.{filter}
 use Rattle.words.proofs.Says.{Says, says-iff, says-same, and-says, eq-says, lt-says, le-says, or-says, not-says}
 use Rattle.regions.specs.declared.Region.{Region}
-use Rattle.regions.specs.Positions.{document, account, wellBound, wellFormed, endsBefore, contains, nested, crosses, misleveled, contradicts, leveled, holds, inside, isAbove, isBelow}
+use Rattle.regions.specs.declared.Choice.{Choice}
+use Rattle.regions.specs.declared.Choice.the-variants.{Strict, WithSelf}
+use Rattle.regions.specs.Positions.{document, account, wellBound, wellFormed, endsBefore, contains, nested, crosses, misleveled, contradicts, leveled, spans, holds, tooLate, inside, isAbove, isBelow}
 use Rattle.regions.specs.Sets.{of, isAt, startsBefore, startsBehind, startsFrom}
 use Rattle.regions.specs.Calls.{foreign}
 
@@ -50,9 +52,30 @@ formed-says r =
     (λ m. record { order = m .0 .0; in-one = m .0 .1; low = m .1 .0; high = m .1 .1 })
     (λ f. ((f .order, f .in-one), (f .low, f .high)))
 
-pub holds-says : (p : ℕ) (r : Region) → Says (holds p r) ((r .start < p) × (p < r .end))
+-- the choice is a bound on the start, at p or right behind it: so what follows is said once over the choice
+pub late-near : (ch : Choice) (p : ℕ) → (p ≤ tooLate ch p) × (tooLate ch p ≤ suc p)
+unfolding tooLate
+late-near Strict p = (omega arith, omega arith)
+late-near WithSelf p = (omega arith, omega arith)
+
+pub late-grows : (ch : Choice) (p q : ℕ) → p ≤ q → tooLate ch p ≤ tooLate ch q
+unfolding tooLate
+late-grows Strict p q l = l
+late-grows WithSelf p q l = omega arith
+
+pub spans-says : (ch : Choice) (p s e : ℕ) → Says (spans ch p s e) ((s < tooLate ch p) × (p < e))
+unfolding spans tooLate
+spans-says Strict p s e = and-says (lt-says s p) (lt-says p e)
+spans-says WithSelf p s e = says-iff (and-says (le-says s p) (lt-says p e)) (λ h. (omega arith, h .1)) (λ h. (omega arith, h .1))
+
+pub holds-says : (ch : Choice) (p : ℕ) (r : Region) → Says (holds ch p r) ((r .start < tooLate ch p) × (p < r .end))
 unfolding holds
-holds-says p r = and-says (lt-says (r .start) p) (lt-says p (r .end))
+holds-says ch p r = spans-says ch p (r .start) (r .end)
+
+-- strictly, as it is most often read
+pub strict-says : (p : ℕ) (r : Region) → Says (holds Strict p r) ((r .start < p) × (p < r .end))
+unfolding tooLate
+strict-says p r = holds-says Strict p r
 
 pub inside-says : (s e : ℕ) (r : Region) → Says (inside s e r) ((s < r .start) × (r .start < e))
 unfolding inside

@@ -14,7 +14,7 @@ use Rattle.regions.specs.declared.Kind.{Kind}
 use Rattle.regions.specs.declared.Kind.the-variants.{Parent}
 use Rattle.regions.specs.Positions.{nested, leveled, holds}
 use Rattle.regions.specs.Sets.{Set, of, only, heldBy}
-use Rattle.regions.specs.Calls.{Pair, pairsWith, pairOf, pairsOf, joined}
+use Rattle.regions.specs.Calls.{Pair, choiceOf, levelFits, pairsWith, pairOf, pairsOf, joined}
 use Rattle.regions.specs.Sound.{Rising, Nesting, Leveling, OneParentEach}
 use Rattle.regions.proofs.Means.{above-says}
 use Rattle.regions.proofs.Chain.{one-of-level}
@@ -25,8 +25,8 @@ abbrev FixesLevel : Kind → Type 0
 FixesLevel k = (d x : Region) → T (pairsWith k d x) → x .level + 1 ≡ d .level
 
 parent-fixes : FixesLevel Parent
-unfolding pairsWith
-parent-fixes d x t = above-says (d .level) x .yes-so (and-right (holds (d .start) x) _ t)
+unfolding pairsWith levelFits
+parent-fixes d x t = above-says (d .level) x .yes-so (and-right (holds (choiceOf Parent) (d .start) x) _ t)
 
 abbrev rises : Pair → Pair → Type 0
 rises p q = p .d .start < q .d .start
@@ -37,11 +37,11 @@ module _ (X : Set) (h : Rising (X .regions)) (n : Nesting (X .regions)) (l : Lev
   unfolding pairsOf
   one-pair k f d =
       let S = only a X in
-      let held = filter-within (pairsWith k d) (holds (d .start)) (S .regions) (all-every (λ x t. pairs-hold k d x t) (S .regions)) in
+      let held = filter-within (pairsWith k d) (holds (choiceOf k) (d .start)) (S .regions) (all-every (λ x t. pairs-hold k d x t) (S .regions)) in
       let up = pairs-kept (λ x y. x .start < y .start) (of a) (X .regions) h in
       let nest = pairs-kept (λ x y. nested x y ≡ true) (of a) (X .regions) n in
       let level = pairs-kept (λ x y. leveled x y ≡ true) (of a) (X .regions) l in
-      let one = one-of-level S (d .start) up nest level (d .level) (pairsWith k d) (f d) in
+      let one = one-of-level S (d .start) up nest level (choiceOf k) (d .level) (pairsWith k d) (f d) in
       omega (arith, ap length held, length-map (filter (pairsWith k d) (S .regions)) (pairOf d))
 
   -- so that from pair to pair the d's rise; of inner it is asked only that it ascends

@@ -1,15 +1,18 @@
 -- The small tests on regions, one law for each way out of their functions: what is answered there is what the definition says.
 -- Assumes nothing.
-use Prim.Native.Nat.{ℕ, _+_, _-_, _<_, _≤_}
-use mathlib.Core.Path.{_≡_, refl}
-use mathlib.Core.Bool.{true, false, not}
+use Prim.Native.Nat.{ℕ, suc, _+_, _-_, _<_, _≤_}
+use mathlib.Core.Path.{_≡_, refl, sym}
+use mathlib.Core.Bool.{true, false, not, _&&_}
 use lib.Dec.{leb, ltb, eqb}
 use native.Mathlib.Omega.{arith}
-use Rattle.words.proofs.Tests.{lt-yes, lt-no, le-yes, le-no, eq-no}
-use Rattle.words.proofs.Says.{eq-same}
+use Rattle.words.proofs.Tests.{and-true, and-false, lt-yes, lt-no, le-yes, le-no, eq-no}
+use Rattle.words.proofs.Says.{eq-same, says-same, and-says, lt-says}
 use Rattle.regions.specs.declared.Region.{Region}
-use Rattle.regions.specs.Positions.{document, account, wellBound, wellFormed, endsBefore, contains, nested, crosses, stabs, holds, inside, isAbove, isBelow}
+use Rattle.regions.specs.declared.Choice.{Choice}
+use Rattle.regions.specs.declared.Choice.the-variants.{Strict, WithSelf}
+use Rattle.regions.specs.Positions.{document, account, wellBound, wellFormed, endsBefore, contains, nested, crosses, stabs, spans, tooLate, inside, isAbove, isBelow}
 use Rattle.regions.specs.Calls.{foreign}
+use Rattle.regions.proofs.Means.{late-near, spans-says}
 
 -- search bounds, and a region
 pub bound-no : (s e : ℕ) → e ≤ s → false ≡ wellBound s e
@@ -70,13 +73,29 @@ pub stabs-is : (k : ℕ) (r : Region) → r .start ≤ k → leb k (r .end) ≡ 
 unfolding stabs
 stabs-is k r h = rw (le-yes (r .start) k h)
 
-pub holds-no : (p : ℕ) (r : Region) → p ≤ r .start → false ≡ holds p r
-unfolding holds
-holds-no p r h = rw (lt-no (r .start) p h)
+-- the choice: it is asked only at the position itself
+pub time-before : (ch : Choice) (p s : ℕ) → s < p → true ≡ ltb s (tooLate ch p)
+time-before ch p s h = sym (lt-yes s (tooLate ch p) (omega (arith, late-near ch p)))
 
-pub holds-is : (p : ℕ) (r : Region) → r .start < p → ltb p (r .end) ≡ holds p r
-unfolding holds
-holds-is p r h = rw (lt-yes (r .start) p h)
+pub time-behind : (ch : Choice) (p s : ℕ) → p < s → false ≡ ltb s (tooLate ch p)
+time-behind ch p s h = sym (lt-no s (tooLate ch p) (omega (arith, late-near ch p)))
+
+pub time-strict : (ch : Choice) (p s : ℕ) → ch ≡ Strict → p ≤ s → false ≡ ltb s (tooLate ch p)
+unfolding tooLate
+time-strict ch p s e h = rw (e, lt-no s p h)
+
+pub time-self : (ch : Choice) (p s : ℕ) → ch ≡ WithSelf → s ≤ p → true ≡ ltb s (tooLate ch p)
+unfolding tooLate
+time-self ch p s e h = rw (e, lt-yes s (suc p) (omega arith))
+
+pub spans-is : (ch : Choice) (p s e : ℕ) → spans ch p s e ≡ (ltb s (tooLate ch p) && ltb p e)
+spans-is ch p s e = says-same (spans-says ch p s e) (and-says (lt-says s (tooLate ch p)) (lt-says p e))
+
+pub spans-ended : (ch : Choice) (p s e : ℕ) → e ≤ p → false ≡ spans ch p s e
+spans-ended ch p s e h = rw (spans-is ch p s e, lt-no p e h) (sym (and-false (ltb s (tooLate ch p))))
+
+pub spans-open : (ch : Choice) (p s e : ℕ) → p < e → ltb s (tooLate ch p) ≡ spans ch p s e
+spans-open ch p s e h = rw (spans-is ch p s e, lt-yes p e h) (sym (and-true (ltb s (tooLate ch p))))
 
 pub inside-no : (s e : ℕ) (r : Region) → r .start ≤ s → false ≡ inside s e r
 unfolding inside

@@ -6,6 +6,7 @@ use Rattle.regions.specs.Sets.{Set}
 use Rattle.regions.specs.Numbers.{DONE, HELD, CROSS, unless}
 use Rattle.regions.specs.Calls.{pointNo, ancestors, parent, boundsNo, descendants, saveNo}
 use Rattle.regions.specs.declared.Region.{Region}
+use Rattle.regions.specs.declared.Choice.the-variants.{Strict}
 
 abbrev pub region : ℕ → ℕ → ℕ → ℕ → Region
 region s e l n = record { start = s; end = e; level = l; reference = n }
@@ -31,7 +32,7 @@ told number found = number ∷ unless number (map (λ (r : Region). r .start) fo
 
 -- a save has its number only; a region's level, where the row names none, is 5
 unfoldable pub ask : Question → List ℕ
-ask (ancestorsAt p) = told (pointNo 0 p) (ancestors p benchSet)
+ask (ancestorsAt p) = told (pointNo 0 p) (ancestors Strict p benchSet)
 ask (descendantsOf s e) = told (boundsNo 0 s e) (descendants s e 0 benchSet)
 ask (parentAt p l) = told (pointNo 0 p) (parent p l benchSet)
 ask (save s e) = saveNo benchSet 0 (region s e 5 0) ∷ []

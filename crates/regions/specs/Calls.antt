@@ -1,7 +1,7 @@
 -- Document 01, "Calls", of sets: each call's number, by its tests in their order (IMAGE, the image's own, comes before these), and what it lists.
 -- Assumes nothing.
 use Prim.Native.Nat.{ℕ, _/_}
-use mathlib.Core.Bool.{Bool, not, _&&_, _||_}
+use mathlib.Core.Bool.{Bool, true, not, _&&_, _||_}
 use mathlib.Core.List.{List, [], _∷_, map, flatMap}
 use lib.Dec.{leb, ltb, eqb}
 use lib.ListN.{length, take, drop}
@@ -12,8 +12,10 @@ use Rattle.regions.specs.Positions.{account, wellBound, wellFormed, hold
 use Rattle.regions.specs.Sets.{Set, of, heldBy, shareOf, heldAt, crossed, contradicted, startsBehind}
 use Rattle.regions.specs.Numbers.{REGION, ACCOUNT, HELD, CROSS, LEVEL, SHARE, ABSENT, SHARES}
 use Rattle.regions.specs.declared.Region.{Region}
+use Rattle.regions.specs.declared.Choice.{Choice}
+use Rattle.regions.specs.declared.Choice.the-variants.{Strict, WithSelf}
 use Rattle.regions.specs.declared.Kind.{Kind}
-use Rattle.regions.specs.declared.Kind.the-variants.{Ancestor, Parent}
+use Rattle.regions.specs.declared.Kind.the-variants.{Ancestor, Parent, AncestorOrSelf}
 
 -- AS MANY AS FIT: whole items of so many words each; the first ones are written, other words stay
 abbrev pub room : ℕ → List ℕ → ℕ
@@ -60,13 +62,13 @@ deleteNo S a s = firstNo ((foreign a s, ACCOUNT) ∷ (not (heldAt s S), ABSENT) 
 unfoldable pub pointNo : ℕ → ℕ → ℕ
 pointNo a p = firstNo ((foreign a p, ACCOUNT) ∷ [])
 
--- ascending starts: outermost first
-abbrev pub ancestors : ℕ → Set → List Region
-ancestors p S = filter (holds p) (S .regions)
+-- ascending starts: outermost first. With self the region that starts at p is one of them, and the last (change request C-17)
+abbrev pub ancestors : Choice → ℕ → Set → List Region
+ancestors ch p S = filter (holds ch p) (S .regions)
 
--- those of them that have the level one less: at most one, since no two ancestors have the same level (change request C-16)
+-- those of the strict ones that have the level one less: at most one, since no two ancestors have the same level (change request C-16)
 abbrev pub parent : ℕ → ℕ → Set → List Region
-parent p l S = filter (isAbove l) (ancestors p S)
+parent p l S = filter (isAbove l) (ancestors Strict p S)
 
 -- DESCENDANT and CHILD SEARCH, by bounds; "after" is any number
 unfoldable pub boundsNo : ℕ → ℕ → ℕ → ℕ
@@ -83,9 +85,20 @@ pub record Pair : Type 0 where
   pub a : Region
   pub d : Region
 
+-- by which choice a kind pairs: by position, so that with self any outer region that starts where d does is one (change request C-17)
+unfoldable pub choiceOf : Kind → Choice
+choiceOf Ancestor = Strict
+choiceOf Parent = Strict
+choiceOf AncestorOrSelf = WithSelf
+
+-- a parent has the level one less, too
+unfoldable pub levelFits : Kind → ℕ → Region → Bool
+levelFits Ancestor l a = true
+levelFits Parent l a = isAbove l a
+levelFits AncestorOrSelf l a = true
+
 unfoldable pub pairsWith : Kind → Region → Region → Bool
-pairsWith Ancestor d a = holds (d .start) a
-pairsWith Parent d a = holds (d .start) a && isAbove (d .level) a
+pairsWith k d a = holds (choiceOf k) (d .start) a && levelFits k (d .level) a
 
 abbrev pub pairOf : Region → Region → Pair
 pairOf d a = record { a = a; d = d }

@@ -1,10 +1,12 @@
 -- Document 01, "Positions, regions, accounts".
 -- Assumes nothing.
-use Prim.Native.Nat.{ℕ, _+_, _/_, _*_}
+use Prim.Native.Nat.{ℕ, suc, _+_, _/_, _*_}
 use mathlib.Core.Bool.{Bool, not, _&&_, _||_}
 use lib.Dec.{leb, ltb, eqb}
 use Rattle.regions.specs.Limits.{accountPositions, documentPositions, lastLevel}
 use Rattle.regions.specs.declared.Region.{Region}
+use Rattle.regions.specs.declared.Choice.{Choice}
+use Rattle.regions.specs.declared.Choice.the-variants.{Strict, WithSelf}
 
 -- a position's document, and its account
 abbrev pub document : ℕ → ℕ
@@ -50,9 +52,19 @@ leveled x y = not (contradicts x y)
 unfoldable pub stabs : ℕ → Region → Bool
 stabs k r = leb (r .start) k && leb k (r .end)
 
--- a region holds a position strictly: it is an ancestor of what starts there
-unfoldable pub holds : ℕ → Region → Bool
-holds p r = ltb (r .start) p && ltb p (r .end)
+-- THE CHOICE (change request C-17): two bounds span a position strictly, or with self, which lets the first one be the position itself
+unfoldable pub spans : Choice → ℕ → ℕ → ℕ → Bool
+spans Strict p s e = ltb s p && ltb p e
+spans WithSelf p s e = leb s p && ltb p e
+
+-- a region holds a position: strictly, it is an ancestor of what starts there; with self, it may be that itself
+unfoldable pub holds : Choice → ℕ → Region → Bool
+holds ch p r = spans ch p (r .start) (r .end)
+
+-- (the first start that comes too late to hold the position: where a walk to it ends)
+unfoldable pub tooLate : Choice → ℕ → ℕ
+tooLate Strict p = p
+tooLate WithSelf p = suc p
 
 -- a start that lies strictly inside given bounds: the region is a descendant of what has them
 unfoldable pub inside : ℕ → ℕ → Region → Bool

@@ -3,15 +3,15 @@
 use Prim.Native.Nat.{ℕ, _<_, _≤_}
 use mathlib.Core.Path.{_≡_}
 use mathlib.Core.Bool.{true}
-use mathlib.Core.List.{List}
-use Rattle.words.specs.Lists.{All, Pairs, sum}
+use mathlib.Core.List.{List, [], _∷_, _++_}
+use Rattle.words.specs.Lists.{filter, All, Pairs, sum}
 use Rattle.regions.specs.Limits.{mostRegions}
 use Rattle.regions.specs.Positions.{wellFormed, nested, leveled}
-use Rattle.regions.specs.Sets.{Set, heldBy, shareOf}
-use Rattle.regions.specs.Calls.{Pair, joined}
+use Rattle.regions.specs.Sets.{Set, of, heldBy, shareOf}
+use Rattle.regions.specs.Calls.{Pair, pairOf, pairsOf, joined}
 use Rattle.regions.specs.Desk.{later}
 use Rattle.regions.specs.declared.Region.{Region}
-use Rattle.regions.specs.declared.Kind.the-variants.{Parent}
+use Rattle.regions.specs.declared.Kind.the-variants.{Ancestor, Parent, AncestorOrSelf}
 
 -- a region is well formed; starts ascend strictly; every two regions nest rightly; their levels say the same
 abbrev pub Wf : Region → Type 0
@@ -45,6 +45,12 @@ Then p q = later (p .a .start) (p .d .start) q ≡ true
 
 abbrev pub Ascending : List Pair → Type 0
 Ascending ps = Pairs Then ps
+
+-- ONE SET JOINED WITH ITSELF, BY ANCESTOR OR SELF (change request C-17): behind the pairs of each d with what contains it stands d's pair with itself
+abbrev pub EachWithItself : Set → ℕ → Type 0
+EachWithItself S a =
+    let xs = filter (of a) (S .regions) in
+    All (λ d. pairsOf AncestorOrSelf xs d ≡ pairsOf Ancestor xs d ++ pairOf d d ∷ []) xs
 
 -- THE JOIN BY PARENT AND CHILD (change request C-16): from pair to pair d's start rises, so that no d stands in two
 abbrev pub OneParentEach : Set → Set → ℕ → Type 0

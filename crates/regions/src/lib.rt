@@ -1,10 +1,10 @@
 // Regions, kinds, marks and seats, and the small tests on them that everybody needs, each equal to its definition.
 ghost use mathlib.Core.Path.{_≡_};
-ghost use lib.Dec.{leb};
+ghost use lib.Dec.{leb, ltb};
 ghost use Rattle.words.specs.Lists.{sum};
 ghost use Rattle.regions.specs.Limits.{mostRegions};
-ghost use Rattle.regions.specs.Positions.{document, account, wellBound, wellFormed, endsBefore, contains, crosses, stabs, holds, inside, isAbove, isBelow};
-ghost use Rattle.regions.specs.Calls.{foreign};
+ghost use Rattle.regions.specs.Positions.{document, account, wellBound, wellFormed, endsBefore, contains, crosses, stabs, spans, holds, tooLate, inside, isAbove, isBelow};
+ghost use Rattle.regions.specs.Calls.{foreign, choiceOf, levelFits};
 ghost use Rattle.regions.specs.Desk.{closed};
 
 // REFUSALS, by their number (document 01's table). A call that is done answers DONE.
@@ -84,10 +84,17 @@ pub struct Region {
     pub reference: u32,
 }
 
+// Whether a region that starts at a position holds it too.
+pub enum Choice {
+    Strict,
+    WithSelf,
+}
+
 // What a join pairs.
 pub enum Kind {
     Ancestor,
     Parent,
+    AncestorOrSelf,
 }
 
 // How far a seat has been served: the last pair handed, by a's start and d's start.
@@ -184,13 +191,46 @@ pub fn stabs(k: u32, r: Region) -> bool
     k <= r.end
 }
 
-pub fn holds(p: u32, r: Region) -> bool
-    ensures { λ t. ⌜ t ≡ holds p r ⌝ }
+// Whether what starts there comes early enough to hold p: before it, or with self at it.
+pub fn in_time(choice: Choice, p: u32, start: u32) -> bool
+    ensures { λ t. ⌜ t ≡ ltb start (tooLate choice p) ⌝ }
 {
-    if p <= r.start {
+    if start < p {
+        return true;
+    }
+    if p < start {
         return false;
     }
-    p < r.end
+    match choice {
+        Choice::Strict => false,
+        Choice::WithSelf => true,
+    }
+}
+
+pub fn spans(choice: Choice, p: u32, start: u32, end: u32) -> bool
+    ensures { λ t. ⌜ t ≡ spans choice p start end ⌝ }
+{
+    if end <= p {
+        return false;
+    }
+    in_time(choice, p, start)
+}
+
+pub fn holds(choice: Choice, p: u32, r: Region) -> bool
+    ensures { λ t. ⌜ t ≡ holds choice p r ⌝ }
+{
+    spans(choice, p, r.start, r.end)
+}
+
+// By which choice a kind pairs: parents are always strict.
+pub fn choice_of(kind: Kind) -> Choice
+    ensures { λ r. ⌜ r ≡ choiceOf kind ⌝ }
+{
+    match kind {
+        Kind::Ancestor => Choice::Strict,
+        Kind::Parent => Choice::Strict,
+        Kind::AncestorOrSelf => Choice::WithSelf,
+    }
 }
 
 pub fn inside(start: u32, end: u32, r: Region) -> bool
@@ -221,6 +261,17 @@ pub fn is_below(level: u32, r: Region) -> bool
         return false;
     }
     l - 1 == level
+}
+
+// Whether a region's level is one that a kind pairs with the given one: of a parent it is one less.
+pub fn level_fits(kind: Kind, level: u32, r: Region) -> bool
+    ensures { λ t. ⌜ t ≡ levelFits kind level r ⌝ }
+{
+    match kind {
+        Kind::Ancestor => true,
+        Kind::Parent => is_above(level, r),
+        Kind::AncestorOrSelf => true,
+    }
 }
 
 // Account above 15, or a position of another account.

@@ -1,6 +1,7 @@
 // The calls on images, each with the numbers of its line and its answer printed.
 ghost use Prim.Native.Nat.{_≤_};
 use queries::Parent;
+use regions::Choice;
 use regions::Region;
 use script::Numbers;
 
@@ -31,17 +32,17 @@ fn save(img: &mut [u32], n: Numbers) {
     console::line(&[index::save(img, n[1], r)]);
 }
 
-fn ancestors(img: &[u32], n: Numbers, answers: &mut [u32]) {
-    let room = least(words::wide(n[3]), answers.len());
-    let r = queries::find_ancestors(img, n[1], n[2], &mut answers[0..room]);
+fn ancestors(img: &[u32], n: Numbers, choice: Choice, lent: u32, answers: &mut [u32]) {
+    let room = least(words::wide(lent), answers.len());
+    let r = queries::find_ancestors(img, n[1], n[2], choice, &mut answers[0..room]);
     console::line(&[r.number, console::narrow(r.total)]);
     console::rows(&answers[0..room], r.total);
 }
 
 // The same search with no room, for its step count.
-fn steps(img: &[u32], n: Numbers, answers: &mut [u32]) {
+fn steps(img: &[u32], n: Numbers, choice: Choice, answers: &mut [u32]) {
     let none: usize = 0;
-    let r = queries::find_ancestors(img, n[1], n[2], &mut answers[0..none]);
+    let r = queries::find_ancestors(img, n[1], n[2], choice, &mut answers[0..none]);
     console::line(&[r.number, console::narrow(r.total), console::narrow(r.steps)]);
 }
 
@@ -76,11 +77,19 @@ fn children(img: &[u32], n: Numbers, answers: &mut [u32]) {
 // A search in an image.
 fn search(img: &[u32], what: usize, n: Numbers, answers: &mut [u32]) {
     if what == script::ANCESTORS {
-        ancestors(img, n, answers);
+        ancestors(img, n, Choice::Strict, n[3], answers);
         return;
     }
     if what == script::STEPS {
-        steps(img, n, answers);
+        steps(img, n, Choice::Strict, answers);
+        return;
+    }
+    if what == script::AROUND {
+        ancestors(img, n, flat::choice_of(n[3]), n[4], answers);
+        return;
+    }
+    if what == script::AROUND_STEPS {
+        steps(img, n, flat::choice_of(n[3]), answers);
         return;
     }
     if what == script::PARENT {

@@ -10,15 +10,17 @@ use lib.ListN.{length, drop, getD}
 use Rattle.words.specs.Lists.{filter, In}
 use Rattle.words.proofs.Tests.{T-of}
 use Rattle.regions.specs.declared.Region.{Region}
+use Rattle.regions.specs.declared.Choice.{Choice}
+use Rattle.regions.specs.declared.Choice.the-variants.{Strict, WithSelf}
 use Rattle.regions.specs.declared.Kind.{Kind}
 use Rattle.regions.specs.declared.Open.{Open}
 use Rattle.regions.specs.Positions.{account, wellFormed}
 use Rattle.regions.specs.Sets.{Set, isAt, only, heldAt, crossed, contradicted, heldBy}
 use Rattle.regions.specs.Calls.{ancestors, parent, Pair, joined}
 use Rattle.regions.specs.Desk.{limitAsked}
-use Rattle.regions.specs.Sound.{Sound, LevelsDiffer, Ascending, OneParentEach}
+use Rattle.regions.specs.Sound.{Sound, LevelsDiffer, Ascending, OneParentEach, EachWithItself}
 use Rattle.image.specs.Read.{setOf as setIn}
-use Rattle.image.proofs.Sound.{valid-levels-differ, valid-parent-one, valid-one-parent-each}
+use Rattle.image.proofs.Sound.{valid-with-self, valid-with-itself, valid-levels-differ, valid-parent-one, valid-one-parent-each}
 use Rattle.plainruns.specs.Calls.{Which, sharesGiven, Fair, Call, Shown, Answer, Step, Done, callsOf, shareGiven, byAccount, leftOut, Same, Agree, left, Served, Passed, next}
 use Rattle.plainruns.specs.Calls.Which.{outer, inner}
 use Rattle.plainruns.specs.Calls.Call.{save, round, openSeat}
@@ -58,10 +60,19 @@ pub demand-few : (so si : List ℕ) {l m : Lent} {ds : List Done} → Ready so s
 demand-few so si {l = l} r run outer = theorem-few so si (begins so si l r .0) (meant so si r run .1) outer
 demand-few so si {l = l} r run inner = theorem-few so si (begins so si l r .0) (meant so si r run .1) inner
 
+-- WITH SELF (change request C-17): what it lists of a position is what is listed strictly, and behind it the region that starts there, if there is one; and a set joined with itself
+-- has each region paired with itself
+pub demand-with-self : (so si : List ℕ) {l m : Lent} {ds : List Done} → Ready so si l → Runs l ds m → (w : Which) (p : ℕ)
+    → ancestors WithSelf p (setIn (imageOf w m)) ≡ ancestors Strict p (setIn (imageOf w m)) ++ filter (isAt p) (setIn (imageOf w m) .regions)
+demand-with-self so si {m = m} r run w p = valid-with-self (imageOf w m) (T-of (demand-valid so si r run w)) p
+
+pub demand-with-itself : (so si : List ℕ) {l m : Lent} {ds : List Done} → Ready so si l → Runs l ds m → (w : Which) (a : ℕ) → EachWithItself (setIn (imageOf w m)) a
+demand-with-itself so si {m = m} r run w a = valid-with-itself (imageOf w m) (T-of (demand-valid so si r run w)) a
+
 -- BY LEVELS (change request C-16): no two ancestors of a position have the same, so that a position and a level have at most one parent, and a join by parent and child
 -- (a seat's list of that kind is such a join's) pairs no inner region twice
-pub demand-levels-differ : (so si : List ℕ) {l m : Lent} {ds : List Done} → Ready so si l → Runs l ds m → (w : Which) (p : ℕ) → LevelsDiffer (ancestors p (setIn (imageOf w m)))
-demand-levels-differ so si {m = m} r run w p = valid-levels-differ (imageOf w m) (T-of (demand-valid so si r run w)) p
+pub demand-levels-differ : (so si : List ℕ) {l m : Lent} {ds : List Done} → Ready so si l → Runs l ds m → (w : Which) (ch : Choice) (p : ℕ) → LevelsDiffer (ancestors ch p (setIn (imageOf w m)))
+demand-levels-differ so si {m = m} r run w ch p = valid-levels-differ (imageOf w m) (T-of (demand-valid so si r run w)) ch p
 
 pub demand-parent-one : (so si : List ℕ) {l m : Lent} {ds : List Done} → Ready so si l → Runs l ds m → (w : Which) (p v : ℕ) → length (parent p v (setIn (imageOf w m))) ≤ 1
 demand-parent-one so si {m = m} r run w p v = valid-parent-one (imageOf w m) (T-of (demand-valid so si r run w)) p v

@@ -12,21 +12,23 @@ use native.Mathlib.Omega.{arith}
 use Rattle.words.specs.Lists.{filter, Pairs, In}
 use Rattle.words.proofs.Tests.{T-of, and-left, and-right}
 use Rattle.words.proofs.Listed.{pairs-mono, pairs-kept, in-kept, in-let, in-filter}
-use Rattle.words.proofs.Says.{Says, true-so, so-true}
+use Rattle.words.proofs.Says.{Says, and-says, lt-says, le-says, true-so, so-true}
 use Rattle.regions.specs.Numbers.{imageFirst}
 use Rattle.regions.specs.declared.Region.{Region}
-use Rattle.regions.specs.Positions.{holds, inside, isAbove, isBelow}
+use Rattle.regions.specs.declared.Choice.{Choice}
+use Rattle.regions.specs.declared.Choice.the-variants.{Strict, WithSelf}
+use Rattle.regions.specs.Positions.{spans, holds, inside, isAbove, isBelow}
 use Rattle.regions.specs.Sets.{Set, heldBy, startsBehind}
 use Rattle.regions.specs.Limits.{regionWidth, pairWidth}
 use Rattle.regions.specs.Calls.{regionWords, written, countWritten, moreRemain, pointNo, boundsNo, ancestors, parent, descendants, children, pairWords, joinNo, joined}
-use Rattle.regions.specs.declared.Kind.the-variants.{Parent as ByParent}
-use Rattle.regions.specs.Sound.{Rising, Nesting, OneParentEach}
-use Rattle.regions.proofs.Means.{holds-says, inside-says, above-says, below-says, behind-says, contains-says}
+use Rattle.regions.specs.declared.Kind.the-variants.{Parent as ByParent, AncestorOrSelf as OrSelf}
+use Rattle.regions.specs.Sound.{Rising, Nesting, EachWithItself, OneParentEach}
+use Rattle.regions.proofs.Means.{inside-says, above-says, below-says, behind-says, contains-says}
 use Rattle.regions.proofs.Chain.{ancestors-inward}
 use Rattle.regions.proofs.Parents.{parents-few}
 use Rattle.image.specs.Read.{setOf}
 use Rattle.image.specs.Valid.{valid}
-use Rattle.image.proofs.Sound.{set-rises, set-nests, set-leveled, valid-one-parent-each}
+use Rattle.image.proofs.Sound.{set-rises, set-nests, set-leveled, valid-with-itself, valid-one-parent-each}
 use Rattle.queries.specs.declared.Parent.{Parent}
 use Rattle.queries.specs.Searches.{FindsAncestors, parentNumber, parentFound, FindsParent, FindsDescendants, FindsChildren}
 use Rattle.queries.specs.Joins.{JoinsSets}
@@ -41,12 +43,17 @@ pub apart : (rs : List Region) → Rising rs → Pairs (λ x y. x ≡ y → ⊥)
 apart rs up = pairs-mono (λ x y l e. let z = ap (λ (r : Region). r .start) e in omega arith) rs up
 
 -- ANCESTORS
-pub ancestors-exactly : (S : Set) (p : ℕ) → Rising (S .regions) → Nesting (S .regions) → Exactly S (AncestorOf p) OuterFirst (ancestors p S)
-ancestors-exactly S p up nest =
+meant-says : (ch : Choice) (p : ℕ) (r : Region) → Says (holds ch p r) (AncestorOf ch p r)
+unfolding spans holds
+meant-says Strict p r = and-says (lt-says (r .start) p) (lt-says p (r .end))
+meant-says WithSelf p r = and-says (le-says (r .start) p) (lt-says p (r .end))
+
+pub ancestors-exactly : (S : Set) (ch : Choice) (p : ℕ) → Rising (S .regions) → Nesting (S .regions) → Exactly S (AncestorOf ch p) OuterFirst (ancestors ch p S)
+ancestors-exactly S ch p up nest =
     record {
-      those-meant = filtered (holds p) (AncestorOf p) (S .regions) (holds-says p);
-      each-once = apart (ancestors p S) (pairs-kept (λ x y. x .start < y .start) (holds p) (S .regions) up);
-      in-order = pairs-mono (λ x y h. true-so (contains-says x y) h) (ancestors p S) (ancestors-inward S p up nest);
+      those-meant = filtered (holds ch p) (AncestorOf ch p) (S .regions) (meant-says ch p);
+      each-once = apart (ancestors ch p S) (pairs-kept (λ x y. x .start < y .start) (holds ch p) (S .regions) up);
+      in-order = pairs-mono (λ x y h. true-so (contains-says x y) h) (ancestors ch p S) (ancestors-inward S ch p up nest);
     }
 
 -- DESCENDANTS and CHILDREN: filters of filters
@@ -87,11 +94,11 @@ module _ (w : List ℕ) (n : ℕ) (z : n ≡ 0) where
   image-valid own e = T-of (image-right (valid w) own (sym z ∙ e))
 
   -- all of them are counted, and as many as fit are written, from the first on
-  pub ancestors-listed : (a p : ℕ) (out out′ : List ℕ) (total made : ℕ) → FindsAncestors w a p out n total made out′
-      → (rs : List Region) × Exactly (setOf w) (AncestorOf p) OuterFirst rs × (total ≡ length rs) × (out′ ≡ written regionWords regionWidth out rs)
-  ancestors-listed a p out out′ total made f =
+  pub ancestors-listed : (a p : ℕ) (ch : Choice) (out out′ : List ℕ) (total made : ℕ) → FindsAncestors w a p ch out n total made out′
+      → (rs : List Region) × Exactly (setOf w) (AncestorOf ch p) OuterFirst rs × (total ≡ length rs) × (out′ ≡ written regionWords regionWidth out rs)
+  ancestors-listed a p ch out out′ total made f =
       let v = image-valid (pointNo a p) (f .number-is) in
-      (ancestors p (setOf w), ancestors-exactly (setOf w) p (set-rises w v) (set-nests w v), f .done z .0, f .done z .2)
+      (ancestors ch p (setOf w), ancestors-exactly (setOf w) ch p (set-rises w v) (set-nests w v), f .done z .0, f .done z .2)
 
   -- those that fit are counted and written, and whether more remain is told
   pub descendants-listed : (a s e after : ℕ) (out out′ : List ℕ) (count : ℕ) (more : Bool) → FindsDescendants w a s e after out n count more out′
@@ -111,8 +118,8 @@ module _ (w : List ℕ) (n : ℕ) (z : n ≡ 0) where
 -- PARENT
 pub parents : (S : Set) (p l : ℕ) (r : Region) → In r (parent p l S) ↔ (In r (S .regions) × ParentOf p l r)
 parents S p l r =
-    let f = filtered (isAbove l) (λ x. x .level + 1 ≡ l) (ancestors p S) (above-says l) r in
-    let g = filtered (holds p) (AncestorOf p) (S .regions) (holds-says p) r in
+    let f = filtered (isAbove l) (λ x. x .level + 1 ≡ l) (ancestors Strict p S) (above-says l) r in
+    let g = filtered (holds Strict p) (AncestorOf Strict p) (S .regions) (meant-says Strict p) r in
     ((λ h. let k = f .0 h in let m = g .0 (k .0) in (m .0, (m .1, k .1))), (λ h. f .1 (g .1 (h .0, h .1 .0), h .1 .1)))
 
 -- a list of one has no other
@@ -132,6 +139,14 @@ pub parent-found : (w : List ℕ) (a p l : ℕ) (x : Parent) → FindsParent w a
     → (parentFound x ≡ [] → (r : Region) → In r (setOf w .regions) → ParentOf p l r → ⊥)
     × ((r : Region) → parentFound x ≡ r ∷ [] → TheOne (setOf w) (ParentOf p l) r)
 parent-found w a p l x f z = ((λ e. no-parent (setOf w) p l (sym (f .done z) ∙ e)), (λ r e. the-parent (setOf w) p l r (sym (f .done z) ∙ e)))
+
+-- ONE IMAGE LENT AS BOTH SETS, BY ANCESTOR OR SELF: of the list, all of which is counted and of which as many as fit are written, each region's own pairs end with the one with itself
+pub selves-joined : (w : List ℕ) (a : ℕ) (out out′ : List ℕ) (n total : ℕ) → JoinsSets w w a OrSelf out n total out′ → n ≡ 0
+    → let ps = joined (setOf w) (setOf w) a OrSelf in
+    EachWithItself (setOf w) a × (total ≡ length ps) × (out′ ≡ written pairWords pairWidth out ps)
+selves-joined w a out out′ n total f z =
+    let v = T-of (image-right (valid w && valid w) (joinNo a) (sym z ∙ f .number-is)) in
+    (valid-with-itself w (and-left (valid w) _ v) a, f .done z .0, f .done z .1)
 
 -- THE JOIN BY PARENT AND CHILD: its list, all of which is counted and of which as many as fit are written, pairs no inner region twice; so there are no more pairs than the account has inner
 -- regions

@@ -177,10 +177,10 @@ means so si {l = l} notes (deletes {a = a} {p = p} {number = num} {w′ = w′} 
     let u = update w l notes w′ num (deleteNo (setOf w (meaning l notes)) a p) (deleted p (setOf w (meaning l notes))) e k (h .refused)
     (λ z. (h .done z .0, h .done z .1 ∙ ap (deleted p) (sym q))) in
     (record { answers = ap says e; leaves = settle (withImage w w′ l) notes _ (u .0) }, u .1)
-means so si {l = l} notes (findsAncestors {a = a} {p = p} {out = out} {number = num} {total = total} {out′ = out′} w h) g k = (
+means so si {l = l} notes (findsAncestors {a = a} {p = p} {ch = ch} {out = out} {number = num} {total = total} {out′ = out′} w h) g k = (
   record {
     answers = shown-lists num (pointNo a p) total out out′ _ (passed (valid (imageOf w l)) num _ (k w) (h .number-is)) (λ z. (h .refused z .0, h .refused z .2)) (λ z. (h .done z .0, h .done z .2))
-        ∙ ap (λ S. unless (pointNo a p) (lists out (ancestors p S)) (refuses (pointNo a p) out)) (sym (set-of w l notes));
+        ∙ ap (λ S. unless (pointNo a p) (lists out (ancestors ch p S)) (refuses (pointNo a p) out)) (sym (set-of w l notes));
     leaves = refl;
   },
   k,

@@ -12,7 +12,8 @@ use Rattle.words.specs.Lists.{filter, some, all, allPairs, sum, firstNo}
 use Rattle.words.proofs.Tests.{eq-yes}
 use Rattle.words.proofs.Written.{sets-above}
 use Rattle.regions.specs.declared.Region.{Region}
-use Rattle.regions.specs.Positions.{wellBound, wellFormed, holds}
+use Rattle.regions.specs.declared.Choice.the-variants.{Strict}
+use Rattle.regions.specs.Positions.{wellBound, wellFormed, spans, holds}
 use Rattle.regions.specs.Sets.{emptySet, of, isAt, saved, deleted}
 use Rattle.regions.specs.Calls.{foreign, saveNo, deleteNo, pointNo, written}
 use Rattle.xrtree.specs.Tree.{Leaf, Tree, listed}
@@ -165,13 +166,13 @@ deletes-phase =
 abbrev pub found : List ℕ
 found = 10 ∷ 90 ∷ 1 ∷ 101 ∷ []
 
-finds-phase : FindsAncestors holding 0 50 (replicate 4 0) 0 1 1 found
-unfolding pointNo firstNo foreign filter holds written steps flatMap
+finds-phase : FindsAncestors holding 0 50 Strict (replicate 4 0) 0 1 1 found
+unfolding pointNo firstNo foreign filter spans holds written steps flatMap
 finds-phase =
     record {
       number-is = rw holding-valid;
       refused = λ n. absurd (n refl);
-      done = λ z. (rw holding-set, at-leaf (λ h t. 1 ≡ steps h 50 t) refl, rw holding-set refl);
+      done = λ z. (rw holding-set, at-leaf (λ h t. 1 ≡ steps h Strict 50 t) refl, rw holding-set refl);
     }
 
 -- THE RUN
@@ -185,7 +186,7 @@ begins = ready given opened (record { lent = replicate 12288 0; sixteen = refl; 
 abbrev pub history : List Done
 history =
     record { call = save outer 0 phase; told = tells 0 0 false [] [] 0 } ∷
-    record { call = look 0 (ancestorSearch outer 50 (replicate 4 0)); told = tells 0 1 false [] found 1 } ∷
+    record { call = look 0 (ancestorSearch outer 50 Strict (replicate 4 0)); told = tells 0 1 false [] found 1 } ∷
     record { call = save outer 0 phase; told = tells 4 0 false [] [] 0 } ∷
     record { call = delete outer 0 10; told = tells 0 0 false [] [] 0 } ∷
     []

@@ -8,6 +8,7 @@ use lib.ListN.{length, take, drop, getD, replicate}
 use denote.Ref.{RefT, now}
 use Rattle.regions.specs.Limits.{accountCount, bufferWords}
 use Rattle.regions.specs.declared.Region.{Region}
+use Rattle.regions.specs.declared.Choice.{Choice}
 use Rattle.regions.specs.declared.Kind.{Kind}
 use Rattle.regions.specs.declared.Mark.{Mark}
 use Rattle.regions.specs.declared.Open.{Open}
@@ -70,8 +71,8 @@ pub data Does : Lent → Call → Answer → Lent → Type 0 where
       → Does l (save w a r) (tells number 0 false [] [] 0) (withImage w w′ l)
   deletes : {l : Lent} {a p : ℕ} {number : ℕ} {w′ : List ℕ} (w : Which) → Deletes (imageOf w l) a p number w′
       → Does l (delete w a p) (tells number 0 false [] [] 0) (withImage w w′ l)
-  findsAncestors : {l : Lent} {a p : ℕ} {out : List ℕ} {number total steps : ℕ} {out′ : List ℕ} (w : Which)
-      → FindsAncestors (imageOf w l) a p out number total steps out′ → Does l (look a (ancestorSearch w p out)) (tells number total false [] out′ steps) l
+  findsAncestors : {l : Lent} {a p : ℕ} {ch : Choice} {out : List ℕ} {number total steps : ℕ} {out′ : List ℕ} (w : Which)
+      → FindsAncestors (imageOf w l) a p ch out number total steps out′ → Does l (look a (ancestorSearch w p ch out)) (tells number total false [] out′ steps) l
   findsParent : {l : Lent} {a p v : ℕ} {x : Parent} (w : Which) → FindsParent (imageOf w l) a p v x
       → Does l (look a (parentSearch w p v)) (tells (parentNumber x) 0 false (parentFound x) [] 0) l
   findsDescendants : {l : Lent} {a b e f : ℕ} {out : List ℕ} {number count : ℕ} {more : Bool} {out′ : List ℕ} (w : Which)

@@ -1,19 +1,22 @@
 -- Demand 2 of a search, in plain words: which regions of the set are listed, that each is listed once, and in which order.
 -- Assumes nothing.
-use Prim.Native.Nat.{ℕ, _+_, _<_}
+use Prim.Native.Nat.{ℕ, _+_, _<_, _≤_}
 use mathlib.Core.Path.{_≡_}
 use mathlib.Core.Logic.{_↔_}
 use mathlib.Core.List.{List}
 use Rattle.words.specs.Lists.{Pairs, In}
 use Rattle.regions.specs.declared.Region.{Region}
+use Rattle.regions.specs.declared.Choice.{Choice}
+use Rattle.regions.specs.declared.Choice.the-variants.{Strict, WithSelf}
 use Rattle.regions.specs.Sets.{Set}
 
--- WHICH ARE MEANT: the ancestors of a position, and those of the level above the given one; the descendants inside bounds past "after", and those of the level below
-abbrev pub AncestorOf : ℕ → Region → Type 0
-AncestorOf p r = (r .start < p) × (p < r .end)
+-- WHICH ARE MEANT: the ancestors of a position, strictly or with self, and those of the level above the given one; the descendants inside bounds past "after", and those of the level below
+abbrev pub AncestorOf : Choice → ℕ → Region → Type 0
+AncestorOf Strict p r = (r .start < p) × (p < r .end)
+AncestorOf WithSelf p r = (r .start ≤ p) × (p < r .end)
 
 abbrev pub ParentOf : ℕ → ℕ → Region → Type 0
-ParentOf p level r = AncestorOf p r × (r .level + 1 ≡ level)
+ParentOf p level r = AncestorOf Strict p r × (r .level + 1 ≡ level)
 
 abbrev pub DescendantIn : ℕ → ℕ → ℕ → Region → Type 0
 DescendantIn start end after r = (start < r .start) × (r .start < end) × (after < r .start)

@@ -37,6 +37,10 @@ pub const SIZE: usize = 15;
 
 pub const PLACE: usize = 16;
 
+pub const AROUND: usize = 17;
+
+pub const AROUND_STEPS: usize = 18;
+
 // What a command is put to, by its capital letter in the table: one image (I), two images (P), the desk (D), or the store itself (S).
 pub const IMAGE: usize = 73;
 
@@ -133,12 +137,14 @@ fn which(line: &[u8], n: usize, forms: &[u8], commands: usize) -> usize
     what
 }
 
-// What a number has to be below, by its letter: s a set, k a kind, f a flag, r room in the answer buffer, a a word of an image, z an image's size, i a seat that is
+// What a number has to be below, by its letter: s a set, k a kind, c a choice, f a flag, r room in the answer buffer, a a word of an image, z an image's size, i a seat that is
 // written directly, and n any number.
 fn bound(letter: usize) -> usize {
     match letter {
-        // s, k, f
-        115 | 107 | 102 => 2,
+        // s, c, f
+        115 | 99 | 102 => 2,
+        // k
+        107 => 3,
         // r
         114 => 4097,
         // a
@@ -248,6 +254,8 @@ pub fn read(line: &[u8]) -> Command {
         part        D nn                \
         word        S san               \
         size        S sz                \
-        place       D ifnknfnn          ",
+        place       D ifnknfnn          \
+        around      I snncr             \
+        aroundsteps I snnc              ",
     )
 }

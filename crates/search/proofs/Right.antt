@@ -14,6 +14,7 @@ use Rattle.words.proofs.Listed.{all-append}
 use Rattle.regions.specs.Positions.{wellFormed, nested}
 use Rattle.regions.specs.Calls.{ancestors}
 use Rattle.regions.specs.declared.Region.{Region}
+use Rattle.regions.specs.declared.Choice.{Choice}
 use Rattle.xrtree.specs.Tree.{Listing, listKeys, listRegions, regionOf, keysOf, regions, leaves}
 use Rattle.xrtree.specs.Rules.{filled, linked, rule1, rule2, rule3, rule4, rule6}
 use Rattle.xrtree.specs.Search.{find, steps}
@@ -92,14 +93,14 @@ module _ (w : List ℕ) (small : (i : ℕ) → getD w i 0 < top) where
       rules-good top h t (keys-small h _) (ends-small h _) (and-left (filled h t) _ r1) (and-left (all wellFormed (regions h t)) _ r6) ruled
 
   -- THE SEARCH FINDS THE ANCESTORS
-  pub found-right : (p : ℕ) → p < top → T (valid w) → find (depthOf w) p (treeOf w) ≡ ancestors p (setOf w)
+  pub found-right : (ch : Choice) (p : ℕ) → p < top → T (valid w) → find (depthOf w) ch p (treeOf w) ≡ ancestors ch p (setOf w)
   unfolding setOf
-  found-right p u v = search-right top (depthOf w) (treeOf w) (valid-good v) p u
+  found-right ch p u v = search-right top (depthOf w) (treeOf w) (valid-good v) ch p u
 
   -- THE STEP BOUND
-  pub steps-bound : (p : ℕ) → p < top → T (valid w) → steps (depthOf w) p (treeOf w) ≤ 4 + 2 * length (ancestors p (setOf w))
-  steps-bound p u v =
-      let f = steps-few (depthOf w) p (treeOf w) (valid-good v .firsts) in
-      let n = ap length (found-right p u v) in
+  pub steps-bound : (ch : Choice) (p : ℕ) → p < top → T (valid w) → steps (depthOf w) ch p (treeOf w) ≤ 4 + 2 * length (ancestors ch p (setOf w))
+  steps-bound ch p u v =
+      let f = steps-few (depthOf w) ch p (treeOf w) (valid-good v .firsts) in
+      let n = ap length (found-right ch p u v) in
       let s = valid-sized w v in
       omega arith

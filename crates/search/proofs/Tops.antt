@@ -14,6 +14,7 @@ use Rattle.regions.specs.Limits.{regionWidth}
 use Rattle.regions.specs.Calls.{regionWords, ancestors, parent}
 use Rattle.regions.specs.Sets.{Set}
 use Rattle.regions.specs.declared.Region.{Region}
+use Rattle.regions.specs.declared.Choice.the-variants.{Strict}
 use Rattle.image.specs.Read.{setOf}
 use Rattle.image.specs.Valid.{valid}
 use Rattle.image.proofs.Sound.{valid-parent-one}
@@ -49,12 +50,12 @@ taken-above : (l : ℕ) (xs : List Region) → taken (Above l) xs ≡ filter (is
 unfolding accepts
 taken-above l xs = refl
 
-pub parent-found : (w : List ℕ) (p l : ℕ) {out out′ : List ℕ} {t : Tally} {n : ℕ} → T (valid w) → Tallied (Above l) out freshTally (ancestors p (setOf w)) n out′ t
+pub parent-found : (w : List ℕ) (p l : ℕ) {out out′ : List ℕ} {t : Tally} {n : ℕ} → T (valid w) → Tallied (Above l) out freshTally (ancestors Strict p (setOf w)) n out′ t
     → foundList (t .last) ≡ parent p l (setOf w)
 parent-found w p l v r =
-    ap foundList (r .last ∙ ap (lastFound Nothing) (taken-above l (ancestors p (setOf w)))) ∙ last-only (parent p l (setOf w)) (valid-parent-one w v p l)
+    ap foundList (r .last ∙ ap (lastFound Nothing) (taken-above l (ancestors Strict p (setOf w)))) ∙ last-only (parent p l (setOf w)) (valid-parent-one w v p l)
 
 -- level 0 has none: no level is one less
 pub parent-none : (p l : ℕ) (S : Set) → l ≡ 0 → foundList Nothing ≡ parent p l S
 unfolding foundList isAbove
-parent-none p l S e = rw (e, filter-none (λ (r : Region). eqb (r .level + 1) 0) (ancestors p S) (all-every (λ r. eq-no (r .level + 1) 0 (λ z. omega arith)) (ancestors p S)))
+parent-none p l S e = rw (e, filter-none (λ (r : Region). eqb (r .level + 1) 0) (ancestors Strict p S) (all-every (λ r. eq-no (r .level + 1) 0 (λ z. omega arith)) (ancestors Strict p S)))

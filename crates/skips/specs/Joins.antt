@@ -7,9 +7,11 @@ use mathlib.Core.Bool.{Bool, true, false, cond}
 use Rattle.words.specs.Lists.{filter, All}
 use Rattle.regions.specs.Sets.{startsFrom, of}
 use Rattle.regions.specs.declared.Region.{Region}
+use Rattle.regions.specs.declared.Choice.{Choice}
+use Rattle.regions.specs.declared.Choice.the-variants.{Strict, WithSelf}
 use Rattle.regions.specs.declared.Mark.{Mark}
 use Rattle.regions.specs.declared.Mark.the-variants.{Fresh, Last}
-use Rattle.regions.specs.Positions.{lowest}
+use Rattle.regions.specs.Positions.{lowest, tooLate}
 use Rattle.image.specs.Read.{setOf}
 use Rattle.leaves.specs.declared.Cursor.{Cursor}
 use Rattle.leaves.specs.Faces.{Faces}
@@ -37,13 +39,18 @@ pub record Clear (rs : List Region) (p q : ℕ) : Type 0 where
   pub far : p ≤ q
   pub none : All (λ (r : Region). p ≤ r .start → q ≤ r .start) rs
 
--- a cursor past such a q
-pub record Skipped (rs : List Region) (w : List ℕ) (p : ℕ) (r : Cursor) : Type 0 where
+-- the first position that a region may hold which starts at q: the next one, or with self q itself
+unfoldable pub firstHeld : Choice → ℕ → ℕ
+firstHeld Strict q = suc q
+firstHeld WithSelf q = q
+
+-- a cursor there, where no region starts that comes too late for p and before such a q
+pub record Skipped (ch : Choice) (rs : List Region) (w : List ℕ) (p : ℕ) (r : Cursor) : Type 0 where
   pub reach : ℕ
-  pub clear : Clear rs p reach
-  pub faces : Faces w r (filter (startsFrom (suc reach)) (setOf w .regions))
+  pub clear : Clear rs (tooLate ch p) reach
+  pub faces : Faces w r (filter (startsFrom (firstHeld ch reach)) (setOf w .regions))
 
 -- the cursor on, or one that skips
-pub record Moved (rs : List Region) (w : List ℕ) (p : ℕ) (on : Cursor) (met : Bool) (r : Cursor) : Type 0 where
+pub record Moved (ch : Choice) (rs : List Region) (w : List ℕ) (p : ℕ) (on : Cursor) (met : Bool) (r : Cursor) : Type 0 where
   pub kept : met ≡ true → r ≡ on
-  pub skipped : met ≡ false → Skipped rs w p r
+  pub skipped : met ≡ false → Skipped ch rs w p r

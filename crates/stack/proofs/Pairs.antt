@@ -14,12 +14,11 @@ use Rattle.words.proofs.Tests.{T-of, of-T, and-left}
 use Rattle.words.proofs.Listed.{all-mono, all-every, all-append, pairs-across, filter-none, filter-append, filter-filter, filter-within, map-append, filter-map}
 use Rattle.words.proofs.Says.{so-false, false-so}
 use Rattle.regions.specs.Positions.{holds}
-use Rattle.regions.specs.Calls.{Pair, room, pairsWith, pairOf, pairsOf, pairWords}
+use Rattle.regions.specs.Calls.{Pair, room, choiceOf, pairsWith, pairOf, pairsOf, pairWords}
 use Rattle.regions.specs.Desk.{isPast, past}
 use Rattle.regions.specs.Sound.{Rising}
 use Rattle.regions.specs.declared.Region.{Region}
 use Rattle.regions.specs.declared.Kind.{Kind}
-use Rattle.regions.specs.declared.Kind.the-variants.{Ancestor, Parent}
 use Rattle.regions.specs.declared.Mark.{Mark}
 use Rattle.regions.specs.declared.Mark.the-variants.{Fresh, Last}
 use Rattle.regions.proofs.Joined.{pairs-hold, later-says}
@@ -31,10 +30,9 @@ use Rattle.stack.specs.Stacks.{regionAt, stacked}
 use Rattle.stack.proofs.Stacked.{stacked-long, stacked-more, stacked-front}
 
 -- KINDS
-pub pairs-not : (k : Kind) (d a : Region) → holds (d .start) a ≡ false → false ≡ pairsWith k d a
+pub pairs-not : (k : Kind) (d a : Region) → holds (choiceOf k) (d .start) a ≡ false → false ≡ pairsWith k d a
 unfolding pairsWith
-pairs-not Ancestor d a h = sym h
-pairs-not Parent d a h = rw h
+pairs-not k d a h = rw h
 
 -- of two outer regions the one that starts sooner: where the other's pair is not past the mark, its own is not
 past-sooner : (m : Mark) (d a b : Region) → a .start ≤ b .start → isPast m (pairOf d b) ≡ false → isPast m (pairOf d a) ≡ false
@@ -64,11 +62,11 @@ unfolding stacked
 past-empty ws n P e = rw e tt
 
 -- of all that hold d: the pairs of d in the whole set
-pub pairs-past : (k : Kind) (m : Mark) (d : Region) (rs : List Region) → pairsPast k m d (filter (holds (d .start)) rs) ≡ past m (pairsOf k rs d)
+pub pairs-past : (k : Kind) (m : Mark) (d : Region) (rs : List Region) → pairsPast k m d (filter (holds (choiceOf k) (d .start)) rs) ≡ past m (pairsOf k rs d)
 unfolding paired pairsOf
 pairs-past k m d rs =
     ap (map (pairOf d))
-    (sym (filter-within (paired k m d) (holds (d .start)) rs (all-every (λ a h. pairs-hold k d a (of-T _ (and-left (pairsWith k d a) _ (T-of h)))) rs))
+    (sym (filter-within (paired k m d) (holds (choiceOf k) (d .start)) rs (all-every (λ a h. pairs-hold k d a (of-T _ (and-left (pairsWith k d a) _ (T-of h)))) rs))
     ∙ sym (filter-filter (pairsWith k d) (λ a. isPast m (pairOf d a)) rs))
     ∙ sym (filter-map (pairOf d) (isPast m) (filter (pairsWith k d) rs))
 

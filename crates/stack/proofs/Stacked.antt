@@ -16,6 +16,7 @@ use Rattle.words.proofs.Written.{sets-below, sets-in}
 use Rattle.regions.specs.Positions.{holds}
 use Rattle.regions.specs.Calls.{room, regionWords}
 use Rattle.regions.specs.declared.Region.{Region}
+use Rattle.regions.specs.declared.Choice.{Choice}
 use Rattle.words.proofs.Says.{so-true, so-false}
 use Rattle.answers.specs.Items.{writtenFrom}
 use Rattle.answers.proofs.Items.{from-none, from-long, from-one, from-append}
@@ -54,8 +55,8 @@ pub region-read : (ws : List ℕ) (i a b c d : ℕ) → a ≡ getD ws (4 * i) 0 
 unfolding regionAt
 region-read ws i a b c d e f g h = rw (e, f, g, h)
 
-pub read-holds : (ws : List ℕ) (n i p : ℕ) (a : Region) → a ≡ regionAt ws i → i < n → All (λ (x : Region). holds p x ≡ true) (stacked ws n) → holds p a ≡ true
-read-holds ws n i p a e l h = rw e (stacked-at (λ (x : Region). holds p x ≡ true) ws n i l h)
+pub read-holds : (ws : List ℕ) (n i : ℕ) (ch : Choice) (p : ℕ) (a : Region) → a ≡ regionAt ws i → i < n → All (λ (x : Region). holds ch p x ≡ true) (stacked ws n) → holds ch p a ≡ true
+read-holds ws n i ch p a e l h = rw e (stacked-at (λ (x : Region). holds ch p x ≡ true) ws n i l h)
 
 -- POPPING: m are left, the top of them has ended or has not
 module _ (ws : List ℕ) (q n m : ℕ) (is : filter (endsBehind q) (stacked ws m) ≡ filter (endsBehind q) (stacked ws n)) where

@@ -13,10 +13,11 @@ use Rattle.words.proofs.Listed.{all-mono, all-two, none-of, all-every, all-appe
 use Rattle.words.proofs.Says.{Says, says-same, says-iff, and-says, lt-says, true-so, so-true, false-so, so-false}
 use Rattle.words.proofs.Counted.{filter-short}
 use Rattle.regions.specs.Limits.{mostAround}
-use Rattle.regions.specs.Positions.{holds}
+use Rattle.regions.specs.Positions.{holds, tooLate}
 use Rattle.regions.specs.Sets.{Set, startsBefore, startsFrom}
 use Rattle.regions.specs.Sound.{Wf, Rising, Nesting, Sound}
 use Rattle.regions.specs.declared.Region.{Region}
+use Rattle.regions.specs.declared.Choice.{Choice}
 use Rattle.regions.proofs.Means.{formed-says, holds-says, before-says, from-says, contains-says}
 use Rattle.regions.proofs.Rising.{parts}
 use Rattle.regions.proofs.Chain.{Inward, together-inward, around-few}
@@ -31,9 +32,9 @@ pub ends-says : (q : ℕ) (r : Region) → Says (endsBehind q r) (q < r .end)
 unfolding endsBehind
 ends-says q r = lt-says q (r .end)
 
--- strictly
-pub upto-strict : (p : ℕ) (rs : List Region) → filter (holdsUpTo p p) rs ≡ filter (holds p) rs
-upto-strict p rs = filter-same (holdsUpTo p p) (holds p) rs (all-every (λ r. says-same (upto-says p p r) (holds-says p r)) rs)
+-- by the choice
+pub upto-holds : (ch : Choice) (p : ℕ) (rs : List Region) → filter (holdsUpTo (tooLate ch p) p) rs ≡ filter (holds ch p) rs
+upto-holds ch p rs = filter-same (holdsUpTo (tooLate ch p) p) (holds ch p) rs (all-every (λ r. says-same (upto-says (tooLate ch p) p r) (holds-says ch p r)) rs)
 
 -- ONE IN THE OTHER: those that hold one place, by themselves or with one that starts there
 module _ (s p : ℕ) (l : s ≤ suc p) where

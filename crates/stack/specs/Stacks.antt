@@ -9,7 +9,7 @@ use Rattle.words.specs.Lists.{Pairs}
 use Rattle.regions.specs.Limits.{mostAround, regionWidth}
 use Rattle.regions.specs.declared.Region.{Region}
 
--- THOSE THAT HOLD A PLACE p: they start before s and end behind p. With s = p they hold it strictly; with s = p + 1 one that starts at p holds it too
+-- THOSE THAT HOLD A PLACE p: they start before s and end behind p. Strictly s is p, with self p + 1: the first start that comes too late
 unfoldable pub holdsUpTo : ℕ → ℕ → Region → Bool
 holdsUpTo s p r = ltb (r .start) s && ltb p (r .end)
 

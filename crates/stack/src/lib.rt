@@ -8,7 +8,7 @@ ghost use lib.ListN.{length};
 ghost use Rattle.words.specs.Lists.{filter, All};
 ghost use Rattle.regions.specs.Limits.{mostAround};
 ghost use Rattle.regions.specs.Positions.{holds};
-ghost use Rattle.regions.specs.Calls.{pairOf};
+ghost use Rattle.regions.specs.Calls.{choiceOf, pairOf};
 ghost use Rattle.regions.specs.Desk.{isPast};
 ghost use Rattle.regions.specs.Sound.{Rising};
 ghost use Rattle.regions.specs.declared.Region.{Region};
@@ -75,7 +75,7 @@ fn pair_all(
     total: usize,
 ) -> usize
     requires { ⌜ (n ≤ mostAround) × (total ≤ 250000) × (length (now held) ≡ heldWords) ⌝ }
-    requires { ⌜ All (λ (a : Region). holds (d .start) a ≡ true) (stacked (now held) n) ⌝ }
+    requires { ⌜ All (λ (a : Region). holds (choiceOf kind) (d .start) a ≡ true) (stacked (now held) n) ⌝ }
     ensures { λ r. ⌜ PairedUp (stacked (now (held .entry)) n) kind mark d true (now (out .entry)) total (now (out .exit)) r ⌝ }
 {
     let mut k = total;
@@ -99,7 +99,7 @@ fn pair_fitting(
     total: usize,
 ) -> usize
     requires { ⌜ (n ≤ mostAround) × (total ≤ 250000) × (length (now held) ≡ heldWords) ⌝ }
-    requires { ⌜ All (λ (a : Region). holds (d .start) a ≡ true) (stacked (now held) n) ⌝ }
+    requires { ⌜ All (λ (a : Region). holds (choiceOf kind) (d .start) a ≡ true) (stacked (now held) n) ⌝ }
     ensures { λ r. ⌜ PairedUp (stacked (now (held .entry)) n) kind mark d false (now (out .entry)) total (now (out .exit)) r ⌝ }
 {
     let room = out.len() / 4;
@@ -141,7 +141,7 @@ pub fn pair_up(
     all: bool,
 ) -> usize
     requires { ⌜ (n ≤ mostAround) × (total ≤ 250000) × (length (now held) ≡ heldWords) ⌝ }
-    requires { ⌜ All (λ (a : Region). holds (d .start) a ≡ true) (stacked (now held) n) ⌝ }
+    requires { ⌜ All (λ (a : Region). holds (choiceOf kind) (d .start) a ≡ true) (stacked (now held) n) ⌝ }
     requires { ⌜ Rising (stacked (now held) n) ⌝ }
     ensures { λ r. ⌜ PairedUp (stacked (now (held .entry)) n) kind mark d all (now (out .entry)) total (now (out .exit)) r ⌝ }
 {

@@ -10,7 +10,7 @@ use native.Mathlib.Omega.{arith}
 use Rattle.words.specs.Lists.{filter, takeWhile, dropWhile, All, Pairs}
 use Rattle.words.proofs.Tests.{and-left, and-right, and-both}
 use Rattle.words.proofs.Listed.{filter-filter, filter-iff, filter-both, pairs-filter, begins, rests, while-join}
-use Rattle.regions.specs.Positions.{stabs, holds}
+use Rattle.regions.specs.Positions.{stabs}
 use Rattle.regions.specs.declared.Region.{Region}
 use Rattle.xrtree.specs.Claims.{Over}
 use Rattle.xrtree.specs.Local.{InBox, box, boxb}
@@ -40,14 +40,6 @@ of-stabs k r h = (leb→le (r .start) k (and-left (leb (r .start) k) _ h), leb�
 pub to-stabs : (k : ℕ) (r : Region) → (r .start ≤ k) × (k ≤ r .end) → T (stabs k r)
 unfolding stabs
 to-stabs k r h = and-both (leb (r .start) k) _ (le→leb (r .start) k (h .0)) (le→leb k (r .end) (h .1))
-
-pub of-holds : (p : ℕ) (r : Region) → T (holds p r) → (r .start < p) × (p < r .end)
-unfolding holds
-of-holds p r h = (ltb→lt (r .start) p (and-left (ltb (r .start) p) _ h), ltb→lt p (r .end) (and-right (ltb (r .start) p) _ h))
-
-pub to-holds : (p : ℕ) (r : Region) → (r .start < p) × (p < r .end) → T (holds p r)
-unfolding holds
-to-holds p r h = and-both (ltb (r .start) p) _ (lt→ltb (r .start) p (h .0)) (lt→ltb p (r .end) (h .1))
 
 -- a filter that is a box
 pub is-box : (P : Region → Bool) (a b c d : ℕ) → ((r : Region) → T (P r) → InBox a b c d r) → ((r : Region) → InBox a b c d r → T (P r))

@@ -8,9 +8,10 @@ use lib.Dec.{leb, ltb}
 use Rattle.words.specs.Lists.{filter, takeWhile, all, allPairs, count, sum}
 use Rattle.words.proofs.Tests.{T-of}
 use Rattle.words.proofs.Says.{lt-says, all-says}
-use Rattle.regions.specs.Positions.{wellBound, wellFormed, endsBefore, contains, nested, misleveled, contradicts, leveled, stabs, holds}
+use Rattle.regions.specs.Positions.{wellBound, wellFormed, endsBefore, contains, nested, misleveled, contradicts, leveled, stabs, spans, holds}
 use Rattle.regions.specs.Sets.{Set, of}
 use Rattle.regions.specs.declared.Region.{Region}
+use Rattle.regions.specs.declared.Choice.the-variants.{Strict, WithSelf}
 use Rattle.xrtree.specs.Tree.{Entry, Key, Tree, weave, listed, keysIn, stabList, allKids, regions, keysOf, pagePlaces, recordPlaces}
 use Rattle.xrtree.specs.Rules.{filledBelow, filled, firstPlace, linked, startsFirst, rule1, separates, rule2, noneStabs, sameRegion, sameRegions, pageLists, flagged, rule3, ownLists, rule4, pairRight, pairsRight, rule5, sharesKept, rule6, onceOrFree, placed}
 use Rattle.xrtree.specs.Search.{run, looks, cost, findKids, stepsKids, holdsFree, find, steps}
@@ -105,24 +106,38 @@ sample-good =
     (record { ascend = T-of (parts-1 .1); second = T-of sample-2; third = T-of sample-3; fourth = T-of sample-4; fifth = T-of sample-5; nest = T-of (parts-6 .1) })
 
 -- SEARCHES: at 312 what the root's key and keys 249 and 329 give, and the leaf entry 310; three pages, two records at the root's key, one at 249 and one at 329
-found-312 : map (λ (r : Region). r .start) (find 2 312 sample) ≡ 10 ∷ 20 ∷ 220 ∷ 300 ∷ 310 ∷ []
-unfolding find findKids holdsFree run filter takeWhile holds
+found-312 : map (λ (r : Region). r .start) (find 2 Strict 312 sample) ≡ 10 ∷ 20 ∷ 220 ∷ 300 ∷ 310 ∷ []
+unfolding find findKids holdsFree run filter takeWhile spans holds
 found-312 = refl
 
-steps-312 : steps 2 312 sample ≡ 7
-unfolding steps stepsKids cost looks holds
+steps-312 : steps 2 Strict 312 sample ≡ 7
+unfolding steps stepsKids cost looks spans holds
 steps-312 = refl
 
 -- at 52 the lists of the root's key and of key 49, and the leaf entry 50
-found-52 : map (λ (r : Region). r .start) (find 2 52 sample) ≡ 10 ∷ 20 ∷ 30 ∷ 40 ∷ 50 ∷ []
-unfolding find findKids holdsFree run filter takeWhile holds
+found-52 : map (λ (r : Region). r .start) (find 2 Strict 52 sample) ≡ 10 ∷ 20 ∷ 30 ∷ 40 ∷ 50 ∷ []
+unfolding find findKids holdsFree run filter takeWhile spans holds
 found-52 = refl
 
-steps-52 : steps 2 52 sample ≡ 7
-unfolding steps stepsKids cost looks holds
+steps-52 : steps 2 Strict 52 sample ≡ 7
+unfolding steps stepsKids cost looks spans holds
 steps-52 = refl
 
 -- at 10 nothing: the start of a region is not inside it
-found-10 : find 2 10 sample ≡ []
-unfolding find findKids holdsFree run filter takeWhile holds
+found-10 : find 2 Strict 10 sample ≡ []
+unfolding find findKids holdsFree run filter takeWhile spans holds
 found-10 = refl
+
+-- but with self it is: the first of the root's list, whose second record ends the walk; three pages
+found-self-10 : map (λ (r : Region). r .start) (find 2 WithSelf 10 sample) ≡ 10 ∷ []
+unfolding find findKids holdsFree run filter takeWhile spans holds
+found-self-10 = refl
+
+steps-self-10 : steps 2 WithSelf 10 sample ≡ 5
+unfolding steps stepsKids cost looks spans holds
+steps-self-10 = refl
+
+-- at 310, a leaf entry in no list, and at 300, which stands first in the list of a key of the page below the root
+found-self : (map (λ (r : Region). r .start) (find 2 WithSelf 310 sample) ≡ 10 ∷ 20 ∷ 220 ∷ 300 ∷ 310 ∷ []) × (map (λ (r : Region). r .start) (find 2 WithSelf 300 sample) ≡ 10 ∷ 20 ∷ 220 ∷ 300 ∷ [])
+unfolding find findKids holdsFree run filter takeWhile spans holds
+found-self = (refl, refl)

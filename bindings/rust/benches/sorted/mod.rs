@@ -55,8 +55,14 @@ impl<'a> Out<'a> {
     }
 }
 
+/// The first start that comes too late to hold d's: by ancestor or self d's own does not.
+fn too_late(kind: Kind, d: &Region) -> u32 {
+    d.start + u32::from(kind == Kind::AncestorOrSelf)
+}
+
+/// Of an a that starts in time.
 fn pairs(kind: Kind, a: &Region, d: &Region) -> bool {
-    d.start < a.end && (kind == Kind::Ancestor || a.level + 1 == d.level)
+    d.start < a.end && (kind != Kind::Parent || a.level + 1 == d.level)
 }
 
 impl Sorted {
@@ -135,7 +141,8 @@ impl Sorted {
     /// For each d, a scan of the other array.
     pub fn join(&self, inner: &Sorted, kind: Kind, out: &mut Out) {
         for d in &inner.regions {
-            for a in self.regions.iter().take_while(|a| a.start < d.start) {
+            let late = too_late(kind, d);
+            for a in self.regions.iter().take_while(|a| a.start < late) {
                 if pairs(kind, a, d) {
                     out.put_pair(a, d);
                 }
@@ -146,7 +153,8 @@ impl Sorted {
     /// The next pairs past a mark (d's start, a's start), as many as fit.
     pub fn join_past(&self, inner: &Sorted, kind: Kind, mark: (u32, u32), out: &mut Out) {
         for d in inner.regions.iter().skip_while(|d| d.start < mark.0) {
-            for a in self.regions.iter().take_while(|a| a.start < d.start) {
+            let late = too_late(kind, d);
+            for a in self.regions.iter().take_while(|a| a.start < late) {
                 if pairs(kind, a, d) && (d.start, a.start) > mark {
                     if out.is_full() {
                         return;
@@ -162,7 +170,8 @@ impl Sorted {
         let mut stack: Vec<&Region> = Vec::with_capacity(64);
         let mut coming = self.regions.iter().peekable();
         for d in &inner.regions {
-            while let Some(a) = coming.next_if(|a| a.start < d.start) {
+            let late = too_late(kind, d);
+            while let Some(a) = coming.next_if(|a| a.start < late) {
                 while stack.last().is_some_and(|top| top.end < a.start) {
                     stack.pop();
                 }

@@ -36,6 +36,22 @@ impl Chance {
         }
     }
 
+    /// One of them, now and then a level deeper: so two sets may have a start in common where the levels are a parent's and its child's.
+    pub fn deeper(&mut self, from: &[Region]) -> Region {
+        let r = self.pick(from);
+        Region { level: r.level + u32::from(self.percent(15)), ..r }
+    }
+
+    /// A number for a choice: 0 and the others mean two.
+    pub fn choice(&mut self) -> u32 {
+        if self.percent(90) { self.below(2) } else { self.word() }
+    }
+
+    /// A number for a kind: 0, 2 and the others mean three.
+    pub fn kind(&mut self) -> u32 {
+        if self.percent(90) { self.below(4) } else { self.word() }
+    }
+
     /// Words to lend, of no meaning.
     pub fn words(&mut self, n: usize) -> Vec<u32> {
         (0..n).map(|_| self.word()).collect()

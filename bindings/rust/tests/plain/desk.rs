@@ -1,6 +1,6 @@
 //! The scope paper's desk, by brute force: a round makes each seat's whole list of pairs and drops those up to its mark.
 
-use super::{account_of, joined, pair_words, written, Set, ACCOUNT, IMAGE};
+use super::{account_of, joined, kind_told, pair_words, written, Set, ACCOUNT, IMAGE};
 use sasnuvarth::raw::{FlatDesk, FlatSeat};
 
 pub const SEAT: u32 = 9;
@@ -14,12 +14,12 @@ const MOST_A_ROUND: u32 = 32;
 
 const CLOSED: FlatSeat = FlatSeat { opened: 0, account: 0, kind: 0, limit: 0, marked: 0, a: 0, d: 0 };
 
-/// A seat as a call tells it: numbers that mean nothing are 0, and 1 stands for "not 0".
+/// A seat as a call tells it: numbers that mean nothing are 0, 1 stands for "not 0", and the kind is one of three.
 fn told(s: &FlatSeat) -> FlatSeat {
     match (s.opened, s.marked) {
         (0, _) => CLOSED,
-        (_, 0) => FlatSeat { opened: 1, kind: s.kind.min(1), marked: 0, a: 0, d: 0, ..*s },
-        _ => FlatSeat { opened: 1, kind: s.kind.min(1), marked: 1, ..*s },
+        (_, 0) => FlatSeat { opened: 1, kind: kind_told(s.kind), marked: 0, a: 0, d: 0, ..*s },
+        _ => FlatSeat { opened: 1, kind: kind_told(s.kind), marked: 1, ..*s },
     }
 }
 
@@ -51,7 +51,7 @@ pub fn open_seat(desk: &FlatDesk, i: u32, account: u32, kind: u32, limit: u32) -
     }
     let mut after = all_told(desk);
     let limit = if limit == 0 { HOUSE_LIMIT } else { limit };
-    after.seats[i as usize] = FlatSeat { opened: 1, account, kind: kind.min(1), limit, ..CLOSED };
+    after.seats[i as usize] = FlatSeat { opened: 1, account, kind: kind_told(kind), limit, ..CLOSED };
     (0, after)
 }
 
@@ -80,7 +80,7 @@ pub fn round(outer: Option<&Set>, inner: Option<&Set>, desk: &FlatDesk, buffer: 
     }
     let (mut after, mut words) = (all_told(desk), buffer.to_vec());
     for (i, s) in after.seats.iter_mut().enumerate().filter(|(_, s)| s.opened != 0) {
-        let mut pairs = joined(outer, inner, s.account, s.kind != 0);
+        let mut pairs = joined(outer, inner, s.account, s.kind);
         pairs.retain(|(a, d)| s.marked == 0 || (d.start, a.start) > (s.d, s.a));
         pairs.truncate(s.limit as usize);
         let part = &mut words[128 * i..128 * (i + 1)];

@@ -1,6 +1,6 @@
 //! Reads an image's words as docs/LAYOUT.md lays them out, and tests the scope paper's seven rules one by one, by brute force.
 
-use super::{account_of, leveled, nested, well_formed, Set};
+use super::{account_of, holds, leveled, nested, spans, well_formed, Set};
 use sasnuvarth::Region;
 
 pub struct Entry {
@@ -181,12 +181,12 @@ pub fn read(words: &[u32]) -> Option<Read> {
 
 impl Read {
     /// Steps of an ancestor search: pages on p's path, and in each inner page there the records looked at.
-    pub fn steps(&self, p: u32) -> usize {
+    pub fn steps(&self, choice: u32, p: u32) -> usize {
         let (mut page, mut steps) = (&self.root, 1);
         while !page.children.is_empty() {
             let right_of = page.keys.iter().filter(|k| k.key <= p).count();
-            for k in page.keys.iter().take(right_of + 1).filter(|k| k.pair.0 < p && p < k.pair.1) {
-                let held = k.list.iter().take_while(|r| super::holds(r, p)).count();
+            for k in page.keys.iter().take(right_of + 1).filter(|k| spans(choice, k.pair, p)) {
+                let held = k.list.iter().take_while(|r| holds(choice, r, p)).count();
                 steps += (held + 1).min(k.list.len());
             }
             page = &page.children[right_of];

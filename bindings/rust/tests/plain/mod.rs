@@ -48,8 +48,13 @@ pub fn leveled(x: &Region, y: &Region) -> bool {
     (!around(x, y) || x.level < y.level) && (!around(y, x) || y.level < x.level)
 }
 
-pub fn holds(r: &Region, p: u32) -> bool {
-    r.start < p && p < r.end
+/// By a choice's number: 0 is strict, and by any other the first bound may be p itself.
+pub fn spans(choice: u32, (start, end): (u32, u32), p: u32) -> bool {
+    (start < p || (choice != 0 && start == p)) && p < end
+}
+
+pub fn holds(choice: u32, r: &Region, p: u32) -> bool {
+    spans(choice, (r.start, r.end), p)
 }
 
 fn foreign(account: u32, p: u32) -> bool {
@@ -122,13 +127,13 @@ impl Set {
         }
     }
 
-    pub fn ancestors(&self, p: u32) -> Vec<Region> {
-        ascending(self.regions.iter().filter(|r| holds(r, p)).copied().collect())
+    pub fn ancestors(&self, choice: u32, p: u32) -> Vec<Region> {
+        ascending(self.regions.iter().filter(|r| holds(choice, r, p)).copied().collect())
     }
 
     /// One or none: no two ancestors of a position have the same level.
     pub fn parent(&self, p: u32, level: u32) -> Option<Region> {
-        let mut above = self.ancestors(p).into_iter().filter(|r| r.level.checked_add(1) == Some(level));
+        let mut above = self.ancestors(0, p).into_iter().filter(|r| r.level.checked_add(1) == Some(level));
         let parent = above.next();
         assert_eq!(above.next(), None, "a second parent of {p} at {level}");
         parent
@@ -147,12 +152,18 @@ pub fn join_number(account: u32) -> u32 {
     if account > 15 { ACCOUNT } else { 0 }
 }
 
+/// A kind's number as a call tells it: 0 by ancestor, 2 by ancestor or self, and for all others 1, by parent.
+pub fn kind_told(kind: u32) -> u32 {
+    if kind == 0 || kind == 2 { kind } else { 1 }
+}
+
 /// The pairs (a, d) of an account. By parent each d stands in one of them at most.
-pub fn joined(outer: &Set, inner: &Set, account: u32, by_parent: bool) -> Vec<(Region, Region)> {
+pub fn joined(outer: &Set, inner: &Set, account: u32, kind: u32) -> Vec<(Region, Region)> {
+    let (choice, by_parent) = (u32::from(kind == 2), kind_told(kind) == 1);
     let mut pairs = Vec::new();
     for a in outer.regions.iter().filter(|a| account_of(a.start) == account) {
         for d in inner.regions.iter().filter(|d| account_of(d.start) == account) {
-            if holds(a, d.start) && (!by_parent || a.level + 1 == d.level) {
+            if holds(choice, a, d.start) && (!by_parent || a.level + 1 == d.level) {
                 pairs.push((*a, *d));
             }
         }
@@ -161,6 +172,14 @@ pub fn joined(outer: &Set, inner: &Set, account: u32, by_parent: bool) -> Vec<(R
     assert!(!by_parent || pairs.windows(2).all(|two| two[0].1.start < two[1].1.start), "a second parent of one region in {account}");
     pairs
 }
+
+/// The outer set of the scope paper's example.
+pub const OUTER: [Region; 4] = [
+    Region { start: 10, end: 90, level: 1, reference: 101 },
+    Region { start: 20, end: 50, level: 2, reference: 102 },
+    Region { start: 30, end: 40, level: 3, reference: 103 },
+    Region { start: 60, end: 80, level: 2, reference: 104 },
+];
 
 /// Lent words after items of four were written into them, as many as fit.
 pub fn written(out: &[u32], items: &[[u32; 4]]) -> Vec<u32> {

@@ -21,7 +21,7 @@ same-length : tie.Need-same-length
 same-length c = search needs
 
 returns : tie.Need-returns
-returns c = refilled _ _ _ _ _ _ _ (c .before .before .before .before .before .before .before .before .pre .1) (valid-sound _ (λ i. omega (arith, c .before .before .before .before .before .before .before .shared-slice-known .given i)) (c .before .before .before .before .before .before .before .before .pre .0)) (c .before .before .before .ancestors-along .ensures) (c .seek-along .ensures)
+returns c = refilled _ _ _ _ _ _ _ _ (c .before .before .before .before .before .before .before .before .pre .1) (valid-sound _ (λ i. omega (arith, c .before .before .before .before .before .before .before .shared-slice-known .given i)) (c .before .before .before .before .before .before .before .before .pre .0)) (c .before .before .before .ancestors-along .ensures) (c .seek-along .ensures)
 
 pub refill-spec : {M : Type 1} → statement M
 refill-spec =

@@ -9,10 +9,10 @@ use Rattle.leafmet.proofs.leaf_own.Statement.{statement}
 use Rattle.leafmet.proofs.leaf_own.Tie as tie
 
 abbrev Inv-loop : tie.InvT-loop
-Inv-loop img page p task out₀ n t₀ i₀ out t i = (i ≤ n) × (n ≤ 8) × Owning task out₀ t₀ img page p out t n i
+Inv-loop img page choice p task out₀ n t₀ i₀ out t i = (i ≤ n) × (n ≤ 8) × Owning task out₀ t₀ img page choice p out t n i
 
 abbrev μ-loop : tie.MeasureT-loop
-μ-loop img page p task out₀ n t₀ i₀ out t i = n - i
+μ-loop img page choice p task out₀ n t₀ i₀ out t i = n - i
 
 fill-requires : tie.Need-fill-requires Inv-loop μ-loop
 fill-requires c κs = search needs
@@ -21,7 +21,7 @@ wide-requires : tie.Need-wide-requires Inv-loop μ-loop
 wide-requires c κs = search needs
 
 loop-holds : tie.Need-loop-holds Inv-loop μ-loop
-loop-holds c = (omega arith, omega arith, leaf-start _ _ _ _ (c .wide .ensures ∙ c .before .fill .ensures))
+loop-holds c = (omega arith, omega arith, leaf-start _ _ _ _ _ (c .wide .ensures ∙ c .before .fill .ensures))
 
 own-entry-requires : tie.Need-own-entry-requires Inv-loop μ-loop
 own-entry-requires c κs = omega (arith, c .before .before .loop .inv .2 .total, c .before .before .loop .inv .2 .steps)
@@ -33,13 +33,13 @@ loop-less : tie.Need-loop-less Inv-loop μ-loop
 loop-less c = search needs
 
 loop-again : tie.Need-loop-again Inv-loop μ-loop
-loop-again c = (omega arith, omega arith, leaf-on _ _ _ _ _ (c .before .before .before .before .before .loop .inv .2) _ _ (c .before .before .before .before .loop-test .taken) (c .before .before .own-entry .ensures))
+loop-again c = (omega arith, omega arith, leaf-on _ _ _ _ _ _ (c .before .before .before .before .before .loop .inv .2) _ _ (c .before .before .before .before .loop-test .taken) (c .before .before .own-entry .ensures))
 
 same-length : tie.Need-same-length Inv-loop μ-loop
 same-length c = c .before .loop .inv .2 .long
 
 returns : tie.Need-returns Inv-loop μ-loop
-returns c = leaf-done _ _ _ _ _ (c .before .loop .inv .2) (c .loop-test .left)
+returns c = leaf-done _ _ _ _ _ _ (c .before .loop .inv .2) (c .loop-test .left)
 
 pub leaf-own-spec : {M : Type 1} → statement M
 leaf-own-spec =

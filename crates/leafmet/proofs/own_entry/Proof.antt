@@ -11,7 +11,7 @@ entry-flag-requires : tie.Need-entry-flag-requires
 entry-flag-requires c κs = search needs
 
 returns : tie.Need-returns
-returns c = entry-in-list _ _ _ _ _ (c .before .entry-flag .ensures) (c .if1 .taken)
+returns c = entry-in-list _ _ _ _ _ _ (c .before .entry-flag .ensures) (c .if1 .taken)
 
 entry-region-requires : tie.Need-entry-region-requires
 entry-region-requires c κs = search needs
@@ -20,7 +20,7 @@ holds-requires : tie.Need-holds-requires
 holds-requires c κs = search needs
 
 returns-2 : tie.Need-returns-2
-returns-2 c = entry-outside _ _ _ _ _ (c .before .before .entry-region .ensures) (sym (c .before .holds .ensures) ∙ not-true (c .before .holds .result) (c .if2 .taken))
+returns-2 c = entry-outside _ _ _ _ _ _ (c .before .before .entry-region .ensures) (sym (c .before .holds .ensures) ∙ not-true (c .before .holds .result) (c .if2 .taken))
 
 visit-requires : tie.Need-visit-requires
 visit-requires c κs = search needs
@@ -29,7 +29,7 @@ same-length : tie.Need-same-length
 same-length c = search needs
 
 returns-3 : tie.Need-returns-3
-returns-3 c = entry-visited _ _ _ _ _ (c .before .before .before .before .before .before .entry-region .ensures) _ _ _ (c .before .before .before .before .before .before .before .before .entry-flag .ensures) (c .before .before .before .before .before .before .before .if1 .left) (sym (c .before .before .before .before .before .holds .ensures) ∙ not-false (c .before .before .before .before .before .holds .result) (c .before .before .before .before .if2 .left)) (c .before .before .visit .ensures)
+returns-3 c = entry-visited _ _ _ _ _ _ (c .before .before .before .before .before .before .entry-region .ensures) _ _ _ (c .before .before .before .before .before .before .before .before .entry-flag .ensures) (c .before .before .before .before .before .before .before .if1 .left) (sym (c .before .before .before .before .before .holds .ensures) ∙ not-false (c .before .before .before .before .before .holds .result) (c .before .before .before .before .if2 .left)) (c .before .before .visit .ensures)
 
 pub own-entry-spec : {M : Type 1} → statement M
 own-entry-spec =

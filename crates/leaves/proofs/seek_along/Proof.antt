@@ -28,7 +28,7 @@ reached c =
     rw (c .before .before .pre .1, c .depth .ensures) (path-read (now (c .before .before .args .img)) (c .before .before .args .x) _ (s .2) (s .1) (omega arith))
 
 entry-rank-requires : tie.Need-entry-rank-requires
-entry-rank-requires c κs = seek-few _ (c .before .before .pre .0) (c .before .before .args .own) (c .before .before .args .x) _ (reached c)
+entry-rank-requires c κs = seek-few _ (c .before .before .pre .0) (c .before .before .args .choice) (c .before .before .args .x) _ (reached c)
 
 fill-requires : tie.Need-fill-requires
 fill-requires c κs = search needs
@@ -37,10 +37,10 @@ next-leaf-requires : tie.Need-next-leaf-requires
 next-leaf-requires c κs = search needs
 
 returns : tie.Need-returns
-returns c = found-in _ (c .before .before .before .before .before .pre .0) (c .before .before .before .before .before .args .own) (c .before .before .before .before .before .args .x) _ _ _ (reached (c .before .before .before)) (c .before .before .entry-rank .ensures) (c .before .fill .ensures) (c .if1 .taken)
+returns c = found-in _ (c .before .before .before .before .before .pre .0) (c .before .before .before .before .before .args .choice) (c .before .before .before .before .before .args .x) _ _ _ (reached (c .before .before .before)) (c .before .before .entry-rank .ensures) (c .before .fill .ensures) (c .if1 .taken)
 
 returns-2 : tie.Need-returns-2
-returns-2 c = found-next _ (c .before .before .before .before .before .before .pre .0) (c .before .before .before .before .before .before .args .own) (c .before .before .before .before .before .before .args .x) _ _ _ _ (reached (c .before .before .before .before)) (c .before .before .before .entry-rank .ensures) (c .before .before .fill .ensures) (c .before .if1 .left) (c .next-leaf .ensures)
+returns-2 c = found-next _ (c .before .before .before .before .before .before .pre .0) (c .before .before .before .before .before .before .args .choice) (c .before .before .before .before .before .before .args .x) _ _ _ _ (reached (c .before .before .before .before)) (c .before .before .before .entry-rank .ensures) (c .before .before .fill .ensures) (c .before .if1 .left) (c .next-leaf .ensures)
 
 pub seek-along-spec : {M : Type 1} → statement M
 seek-along-spec =

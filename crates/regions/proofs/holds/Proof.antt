@@ -1,15 +1,16 @@
--- `regions::holds` meets its contract: a position at or before the start is not held; else the end decides.
+-- `regions::holds` meets its contract: its two ends span the position, or do not.
 -- Assumes nothing.
-use native.Mathlib.Omega.{arith}
-use Rattle.regions.proofs.Small.{holds-no, holds-is}
+use borrow.Author.Needs.{needs}
+use Rattle.regions.specs.Positions.{holds}
 use Rattle.regions.proofs.holds.Statement.{statement}
 use Rattle.regions.proofs.holds.Tie as tie
 
-returns : tie.Need-returns
-returns c = holds-no _ _ (omega (arith, c .if1 .taken))
+spans-requires : tie.Need-spans-requires
+spans-requires c κs = search needs
 
-returns-2 : tie.Need-returns-2
-returns-2 c = holds-is _ _ (omega (arith, c .before .if1 .left))
+returns : tie.Need-returns
+unfolding holds
+returns c = c .spans .ensures
 
 pub holds-spec : {M : Type 1} → statement M
-holds-spec = tie.close (tie.spec returns returns-2)
+holds-spec = tie.close (tie.spec spans-requires returns)

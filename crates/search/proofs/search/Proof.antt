@@ -15,7 +15,7 @@ same-length : tie.Need-same-length
 same-length c = search needs
 
 returns : tie.Need-returns
-returns c = tallied-same (found-right _ (λ i. omega (arith, c .before .before .before .before .before .shared-slice-known .given i)) _ (omega arith) (c .before .before .before .before .before .before .pre .0)) (c .before .before .search-path .ensures)
+returns c = tallied-same (found-right _ (λ i. omega (arith, c .before .before .before .before .before .shared-slice-known .given i)) _ _ (omega arith) (c .before .before .before .before .before .before .pre .0)) (c .before .before .search-path .ensures)
 
 pub search-spec : {M : Type 1} → statement M
 search-spec = tie.close (tie.spec search-path-requires same-length returns)

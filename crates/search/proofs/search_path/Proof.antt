@@ -15,10 +15,10 @@ use Rattle.search.proofs.search_path.Statement.{statement}
 use Rattle.search.proofs.search_path.Tie as tie
 
 abbrev Inv-loop : tie.InvT-loop
-Inv-loop img p task out₀ way depth t₀ i₀ out t i = (i ≤ depth) × Going task out₀ img p out t i
+Inv-loop img choice p task out₀ way depth t₀ i₀ out t i = (i ≤ depth) × Going task out₀ img choice p out t i
 
 abbrev μ-loop : tie.MeasureT-loop
-μ-loop img p task out₀ way depth t₀ i₀ out t i = depth - i
+μ-loop img choice p task out₀ way depth t₀ i₀ out t i = depth - i
 
 -- where the loop stands on the path
 abbrev image : tie.At-loop Inv-loop μ-loop → List ℕ
@@ -43,7 +43,7 @@ fresh-requires : tie.Need-fresh-requires Inv-loop μ-loop
 fresh-requires c κs = search needs
 
 loop-holds : tie.Need-loop-holds Inv-loop μ-loop
-loop-holds c = (omega arith, path-start (now (c .before .before .before .before .args .img)) (c .before .before .before .before .args .p) (c .fresh .ensures))
+loop-holds c = (omega arith, path-start (now (c .before .before .before .before .args .img)) (c .before .before .before .before .args .choice) (c .before .before .before .before .args .p) (c .fresh .ensures))
 
 step-requires : tie.Need-step-requires Inv-loop μ-loop
 step-requires c κs = omega (arith, low (c .before), c .before .loop .inv .1 .total, c .before .loop .inv .1 .steps)
@@ -64,7 +64,7 @@ loop-less : tie.Need-loop-less Inv-loop μ-loop
 loop-less c = search needs
 
 loop-again : tie.Need-loop-again Inv-loop μ-loop
-loop-again c = (omega arith, path-on (image (c .before .before .before .before .before .before)) (c .before .before .before .before .before .before .before .before .before .before .before .args .p) (c .before .before .before .before .before .before .loop .i) (c .before .before .before .before .before .before .loop .inv .1) _ (on-way (c .before .before .before .before .before .before)) _ (c .before .before .before .before .step .ensures) _ _ (omega (arith, low (c .before .before .before .before .before .before), c .before .before .before .before .before .before .before .before .depth .ensures)) (few (c .before .before .before .before .before .before)) (c .before .before .page-lists .ensures))
+loop-again c = (omega arith, path-on (image (c .before .before .before .before .before .before)) (c .before .before .before .before .before .before .before .before .before .before .before .args .choice) (c .before .before .before .before .before .before .before .before .before .before .before .args .p) (c .before .before .before .before .before .before .loop .i) (c .before .before .before .before .before .before .loop .inv .1) _ (on-way (c .before .before .before .before .before .before)) _ (c .before .before .before .before .step .ensures) _ _ (omega (arith, low (c .before .before .before .before .before .before), c .before .before .before .before .before .before .before .before .depth .ensures)) (few (c .before .before .before .before .before .before)) (c .before .before .page-lists .ensures))
 
 step-requires-2 : tie.Need-step-requires-2 Inv-loop μ-loop
 step-requires-2 c κs = omega (arith, low (c .before), c .before .loop .inv .1 .total, c .before .loop .inv .1 .steps)
@@ -82,7 +82,7 @@ same-length : tie.Need-same-length Inv-loop μ-loop
 same-length c = search needs
 
 returns : tie.Need-returns Inv-loop μ-loop
-returns c = path-end (image (c .before .before .before .before .before .before)) (c .before .before .before .before .before .before .before .before .before .before .before .args .p) (c .before .before .before .before .before .before .loop .i) (c .before .before .before .before .before .before .loop .inv .1) _ (rw (ended (c .before .before .before .before .before)) (on-way (c .before .before .before .before .before .before))) _ (c .before .before .before .before .step2 .ensures) _ _ (omega (arith, low (c .before .before .before .before .before .before), c .before .before .before .before .before .before .before .before .depth .ensures)) (c .before .before .leaf-own .ensures)
+returns c = path-end (image (c .before .before .before .before .before .before)) (c .before .before .before .before .before .before .before .before .before .before .before .args .choice) (c .before .before .before .before .before .before .before .before .before .before .before .args .p) (c .before .before .before .before .before .before .loop .i) (c .before .before .before .before .before .before .loop .inv .1) _ (rw (ended (c .before .before .before .before .before)) (on-way (c .before .before .before .before .before .before))) _ (c .before .before .before .before .step2 .ensures) _ _ (omega (arith, low (c .before .before .before .before .before .before), c .before .before .before .before .before .before .before .before .depth .ensures)) (c .before .before .leaf-own .ensures)
 
 pub search-path-spec : {M : Type 1} → statement M
 search-path-spec =
