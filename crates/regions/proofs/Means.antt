@@ -72,11 +72,6 @@ pub holds-says : (ch : Choice) (p : ℕ) (r : Region) → Says (holds ch p r) ((
 unfolding holds
 holds-says ch p r = spans-says ch p (r .start) (r .end)
 
--- strictly, as it is most often read
-pub strict-says : (p : ℕ) (r : Region) → Says (holds Strict p r) ((r .start < p) × (p < r .end))
-unfolding tooLate
-strict-says p r = holds-says Strict p r
-
 pub inside-says : (s e : ℕ) (r : Region) → Says (inside s e r) ((s < r .start) × (r .start < e))
 unfolding inside
 inside-says s e r = and-says (lt-says s (r .start)) (lt-says (r .start) e)

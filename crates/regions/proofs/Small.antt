@@ -1,10 +1,11 @@
 -- The small tests on regions, one law for each way out of their functions: what is answered there is what the definition says.
 -- Assumes nothing.
-use Prim.Native.Nat.{ℕ, suc, _+_, _-_, _<_, _≤_}
+use Prim.Native.Nat.{ℕ, _+_, _-_, _<_, _≤_}
 use mathlib.Core.Path.{_≡_, refl, sym}
 use mathlib.Core.Bool.{true, false, not, _&&_}
 use lib.Dec.{leb, ltb, eqb}
 use native.Mathlib.Omega.{arith}
+use native.Mathlib.Numerals.{add-one}
 use Rattle.words.proofs.Tests.{and-true, and-false, lt-yes, lt-no, le-yes, le-no, eq-no}
 use Rattle.words.proofs.Says.{eq-same, says-same, and-says, lt-says}
 use Rattle.regions.specs.declared.Region.{Region}
@@ -12,7 +13,7 @@ use Rattle.regions.specs.declared.Choice.{Choice}
 use Rattle.regions.specs.declared.Choice.the-variants.{Strict, WithSelf}
 use Rattle.regions.specs.Positions.{document, account, wellBound, wellFormed, endsBefore, contains, nested, crosses, stabs, spans, tooLate, inside, isAbove, isBelow}
 use Rattle.regions.specs.Calls.{foreign}
-use Rattle.regions.proofs.Means.{late-near, spans-says}
+use Rattle.regions.proofs.Means.{spans-says}
 
 -- search bounds, and a region
 pub bound-no : (s e : ℕ) → e ≤ s → false ≡ wellBound s e
@@ -73,20 +74,14 @@ pub stabs-is : (k : ℕ) (r : Region) → r .start ≤ k → leb k (r .end) ≡ 
 unfolding stabs
 stabs-is k r h = rw (le-yes (r .start) k h)
 
--- the choice: it is asked only at the position itself
-pub time-before : (ch : Choice) (p s : ℕ) → s < p → true ≡ ltb s (tooLate ch p)
-time-before ch p s h = sym (lt-yes s (tooLate ch p) (omega (arith, late-near ch p)))
-
-pub time-behind : (ch : Choice) (p s : ℕ) → p < s → false ≡ ltb s (tooLate ch p)
-time-behind ch p s h = sym (lt-no s (tooLate ch p) (omega (arith, late-near ch p)))
-
-pub time-strict : (ch : Choice) (p s : ℕ) → ch ≡ Strict → p ≤ s → false ≡ ltb s (tooLate ch p)
+-- the choice: a bound on the start, and the end
+pub late-strict : (ch : Choice) (p n : ℕ) → ch ≡ Strict → n ≡ p → n ≡ tooLate ch p
 unfolding tooLate
-time-strict ch p s e h = rw (e, lt-no s p h)
+late-strict ch p n e h = rw e h
 
-pub time-self : (ch : Choice) (p s : ℕ) → ch ≡ WithSelf → s ≤ p → true ≡ ltb s (tooLate ch p)
+pub late-self : (ch : Choice) (p n : ℕ) → ch ≡ WithSelf → n ≡ p → n + 1 ≡ tooLate ch p
 unfolding tooLate
-time-self ch p s e h = rw (e, lt-yes s (suc p) (omega arith))
+late-self ch p n e h = rw (e, h) (add-one p)
 
 pub spans-is : (ch : Choice) (p s e : ℕ) → spans ch p s e ≡ (ltb s (tooLate ch p) && ltb p e)
 spans-is ch p s e = says-same (spans-says ch p s e) (and-says (lt-says s (tooLate ch p)) (lt-says p e))

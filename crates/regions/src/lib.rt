@@ -191,20 +191,21 @@ pub fn stabs(k: u32, r: Region) -> bool
     k <= r.end
 }
 
-// Whether what starts there comes early enough to hold p: before it, or with self at it.
+// The first start that comes too late to hold p: p itself, or with self the one behind it, for which 32 bits may not do.
+fn too_late(choice: Choice, p: u32) -> usize
+    ensures { λ r. ⌜ r ≡ tooLate choice p ⌝ }
+{
+    match choice {
+        Choice::Strict => words::wide(p),
+        Choice::WithSelf => words::wide(p) + 1,
+    }
+}
+
+// Whether what starts there comes early enough to hold p. (A bound, and no test of the choice: whoever asks many starts about one p asks the choice once.)
 pub fn in_time(choice: Choice, p: u32, start: u32) -> bool
     ensures { λ t. ⌜ t ≡ ltb start (tooLate choice p) ⌝ }
 {
-    if start < p {
-        return true;
-    }
-    if p < start {
-        return false;
-    }
-    match choice {
-        Choice::Strict => false,
-        Choice::WithSelf => true,
-    }
+    words::wide(start) < too_late(choice, p)
 }
 
 pub fn spans(choice: Choice, p: u32, start: u32, end: u32) -> bool

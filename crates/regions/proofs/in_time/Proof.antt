@@ -1,27 +1,19 @@
--- `regions::in_time` meets its contract: before the position and behind it the choice does not matter; at it, it decides.
+-- `regions::in_time` meets its contract: what starts before the bound comes in time.
 -- Assumes nothing.
 use borrow.Author.Needs.{needs}
-use Rattle.regions.proofs.Small.{time-before, time-behind, time-strict, time-self}
+use mathlib.Core.Path.{ap₂}
+use lib.Dec.{ltb}
 use Rattle.regions.proofs.in_time.Statement.{statement}
 use Rattle.regions.proofs.in_time.Tie as tie
 
+wide-requires : tie.Need-wide-requires
+wide-requires c κs = search needs
+
+too-late-requires : tie.Need-too-late-requires
+too-late-requires c κs = search needs
+
 returns : tie.Need-returns
-returns c = time-before _ _ _ (c .if1 .taken)
-
-returns-2 : tie.Need-returns-2
-returns-2 c = time-behind _ _ _ (c .if2 .taken)
-
-enum-told : tie.Need-enum-told
-enum-told c = search needs
-
-enum-told-2 : tie.Need-enum-told-2
-enum-told-2 c = search needs
-
-returns-3 : tie.Need-returns-3
-returns-3 c = time-strict _ _ _ (c .enum-told .given .1) (c .before .before .before .if1 .left)
-
-returns-4 : tie.Need-returns-4
-returns-4 c = time-self _ _ _ (c .enum-told2 .given .1) (c .before .before .if2 .left)
+returns c = ap₂ ltb (c .before .wide .ensures) (c .too-late .ensures)
 
 pub in-time-spec : {M : Type 1} → statement M
-in-time-spec = tie.close (tie.spec returns returns-2 enum-told enum-told-2 returns-3 returns-4)
+in-time-spec = tie.close (tie.spec wide-requires too-late-requires returns)

@@ -1,7 +1,6 @@
 -- `skips::forward` meets its contract. The invariant: the cursor is at a place that is not behind the first that may be held. The measure: how many entries are left.
 -- Assumes nothing.
 use borrow.Author.Needs.{needs}
-use native.Mathlib.Omega.{arith}
 use mathlib.Core.Path.{sym, _∙_}
 use lib.ListN.{length}
 use Rattle.words.proofs.Tests.{not-true, not-false}
