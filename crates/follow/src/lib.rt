@@ -1,4 +1,5 @@
-// The outer regions that hold a place, by the choice, kept on a stack while the place moves on: made anew by one search, or brought from one place to the next entry by entry.
+// The outer regions that hold a place, by the choice, kept on a stack while the place moves on: made anew by one search, or brought from one place to the next entry by
+// entry.
 ghost use Prim.Native.Nat.{_≤_};
 ghost use mathlib.Core.Path.{_≡_};
 ghost use lib.Dec.{T};
@@ -56,7 +57,8 @@ fn refill(outer: &[u32], held: &mut [u32], choice: Choice, p: u32) -> Stack
     Stack { n, cur }
 }
 
-// The stack where the pairs begin, at p or before it. No region goes beyond its account, so that none holds the account's first position strictly: there it is empty, and what starts there is still to come.
+// The stack where the pairs begin, at p or before it. No region goes beyond its account, so that none holds the account's first position strictly: there it is empty, and what
+// starts there is still to come.
 pub fn begin(
     outer: &[u32],
     held: &mut [u32],
@@ -79,7 +81,8 @@ pub fn begin(
     }
 }
 
-// On to p: entry by entry, and where one that does not hold p stands leaves before it, by one descent. Most often the entry faced starts too late: only its start is read then.
+// On to p: entry by entry, and where one that does not hold p stands leaves before it, by one descent. Most often the entry faced starts too late: only its start is
+// read then.
 fn catch_up(outer: &[u32], held: &mut [u32], choice: Choice, s: Stack, p: u32) -> Stack
     requires { ⌜ T (valid (now outer)) ⌝ }
     requires { ⌜ Coming (now outer) (tooLate choice p) p (now held) s ⌝ }

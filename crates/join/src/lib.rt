@@ -1,5 +1,5 @@
-// The join of two sets: for each d of the inner set, in order, the pairs of d with its ancestors in the outer set, strict or with self. The outer regions that hold a place are kept on a stack,
-// which follows the d's as they ascend; where nothing can pair, neither set is read.
+// The join of two sets: for each d of the inner set, in order, the pairs of d with its ancestors in the outer set, strict or with self. The outer regions that hold a place
+// are kept on a stack, which follows the d's as they ascend; where nothing can pair, neither set is read.
 ghost use mathlib.Core.Path.{_≡_};
 ghost use mathlib.Core.Bool.{cond, _||_};
 ghost use Prim.Native.Nat.{_<_, _≤_, min};

@@ -67,8 +67,8 @@ pub fn ancestors(img: &[u32], choice: Choice, p: u32, out: &mut [u32]) -> Tally
     ancestors_along(img, path::descend(img, p), choice, p, out)
 }
 
-// PARENT SEARCH of a valid image, always strict: the ancestor whose level is one less, or none. No two ancestors have the same level, so whichever was taken is the only one. One word has no room
-// for a region, so none is written.
+// PARENT SEARCH of a valid image, always strict: the ancestor whose level is one less, or none. No two ancestors have the same level, so whichever was taken is the only
+// one. One word has no room for a region, so none is written.
 pub fn parent(img: &[u32], p: u32, level: u32) -> Found
     requires { ⌜ T (valid (now img)) ⌝ }
     ensures { λ r. ⌜ foundList r ≡ parent p level (setOf (now (img .entry))) ⌝ }
