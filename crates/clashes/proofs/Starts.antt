@@ -8,11 +8,12 @@ use lib.Dec.{T}
 use native.Mathlib.Omega.{arith}
 use Rattle.words.specs.Lists.{filter, All}
 use Rattle.words.proofs.Tests.{by-test}
-use Rattle.words.proofs.Listed.{all-mono, all-every, all-let, pairs-kept, filter-none, filter-within}
+use Rattle.words.proofs.Listed.{all-mono, all-every, all-let, pairs-kept, filter-within}
 use Rattle.words.proofs.Says.{all-says, true-so, so-true, so-false}
 use Rattle.regions.specs.declared.Region.{Region}
 use Rattle.regions.specs.Sets.{isAt, startsFrom}
 use Rattle.regions.proofs.Means.{Formed, formed-says, at-says, from-says}
+use Rattle.regions.proofs.Selves.{none-at}
 use Rattle.regions.specs.Sound.{Rising, Nesting, Leveling}
 use Rattle.image.specs.Read.{setOf}
 use Rattle.image.specs.Valid.{valid}
@@ -50,14 +51,11 @@ firstAt y [] = []
 firstAt y (r ∷ rs) = cond (isAt y r) (r ∷ []) []
 
 -- AT MOST ONE HAS A GIVEN START, and of those that start there or behind it is the first
-none-behind : (y : ℕ) (rs : List Region) → All (λ (r : Region). y < r .start) rs → filter (isAt y) rs ≡ []
-none-behind y rs a = filter-none (isAt y) rs (all-mono (λ r l. so-false (at-says y r) (λ e. omega arith)) rs a)
-
 pub first-at : (y : ℕ) (rs : List Region) → Rising rs → All (λ (r : Region). y ≤ r .start) rs → filter (isAt y) rs ≡ firstAt y rs
 unfolding filter firstAt
 first-at y [] h a = refl
 first-at y (r ∷ rs) h a =
-    let none = none-behind y rs (all-mono {Q = λ (x : Region). y < x .start} (λ x l. omega (arith, a .0)) rs (h .0)) in
+    let none = none-at y rs (all-mono {Q = λ (x : Region). y < x .start} (λ x l. omega (arith, a .0)) rs (h .0)) in
     by-test (isAt y r) (λ e. rw (e, none)) (λ e. rw (e, none))
 
 -- so it is the first of those from there on

@@ -27,7 +27,7 @@ module _ (p : ℕ) where
   none-hold : (ch : Choice) (rs : List Region) → All (λ (r : Region). p < r .start) rs → filter (holds ch p) rs ≡ []
   none-hold ch rs a = filter-none (holds ch p) rs (all-mono (λ r l. so-false (holds-says ch p r) (λ m. omega (arith, late-near ch p))) rs a)
 
-  none-at : (rs : List Region) → All (λ (r : Region). p < r .start) rs → filter (isAt p) rs ≡ []
+  pub none-at : (rs : List Region) → All (λ (r : Region). p < r .start) rs → filter (isAt p) rs ≡ []
   none-at rs a = filter-none (isAt p) rs (all-mono (λ r l. so-false (at-says p r) (λ m. omega arith)) rs a)
 
   -- WITH SELF: before p as strictly, at p the one that starts there, behind p none
