@@ -36,7 +36,7 @@ module _ (w : List ℕ) where
       let i = records-few n (recordNext (recordOf w q)) in
       by-test (eqb q 0) (λ h. rw h (omega arith)) (λ h. rw h (omega arith))
 
--- a region that holds ch p is met and looked at; one that does not is looked at, and ends the walk
+-- a region that holds p by the choice is met and looked at; one that does not is looked at, and ends the walk
 module _ (ch : Choice) (p : ℕ) where
   pub while-few : (rs : List Region) → length (takeWhile (holds ch p) rs) ≤ length rs
   unfolding takeWhile

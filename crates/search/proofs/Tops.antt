@@ -19,7 +19,7 @@ use Rattle.image.specs.Read.{setOf}
 use Rattle.image.specs.Valid.{valid}
 use Rattle.image.proofs.Sound.{valid-parent-one}
 use Rattle.answers.proofs.Items.{from-first}
-use Rattle.tally.specs.declared.Found.the-variants.{Nothing, At}
+use Rattle.tally.specs.declared.Found.the-variants.{Nothing}
 use Rattle.tally.specs.declared.Task.the-variants.{List as Listing, Above}
 use Rattle.tally.specs.declared.Tally.{Tally}
 use Rattle.tally.specs.Tasks.{accepts}
