@@ -1,4 +1,4 @@
-/* The scope paper's example through the C header: a check that the header names the archive's functions as they are. */
+/* The scope paper's example and a batch through the C header: a check that the header names the archive's functions as they are. */
 #include <stdio.h>
 #include <string.h>
 
@@ -127,6 +127,41 @@ static void check_desk(void) {
     expect("any other kind is told as by parent", sasnuvarth_open_seat(s.desk, 4, 0, 3, 3).desk.seats[4].kind, SASNUVARTH_BY_PARENT);
 }
 
+/* A share of two: full, then freed by a delete whose rest is no region. */
+static void check_batch(void) {
+    static uint32_t image[SASNUVARTH_IMAGE_WORDS], before[SASNUVARTH_IMAGE_WORDS];
+    enum { ITEMS = 6, ALL = ITEMS * SASNUVARTH_ITEM_WORDS };
+    const size_t n = SASNUVARTH_IMAGE_WORDS;
+    const uint32_t shares[16] = {2};
+    const uint32_t items[ALL] = {
+        SASNUVARTH_ITEM_SAVE,   0, 10, 90, 1, 101,
+        SASNUVARTH_ITEM_SAVE,   0, 20, 50, 2, 102,
+        SASNUVARTH_ITEM_SAVE,   0, 60, 80, 2, 104,
+        SASNUVARTH_ITEM_DELETE, 0, 20, 7,  0, 0,
+        2,                      0, 60, 80, 2, 104,
+        SASNUVARTH_ITEM_SAVE,   0, 60, 80, 2, 104,
+    };
+    const uint32_t right[ITEMS + 1] = {SASNUVARTH_DONE, SASNUVARTH_DONE, SASNUVARTH_SHARE, SASNUVARTH_DONE,
+                                       SASNUVARTH_FORM, SASNUVARTH_DONE, 77};
+    const uint32_t left[] = {10, 90, 1, 101, 60, 80, 2, 104};
+    uint32_t places[ITEMS + 1], lent[ITEMS + 1], out[24];
+    for (size_t i = 0; i <= ITEMS; i++)
+        places[i] = lent[i] = 77;
+    expect("open for a batch", sasnuvarth_open_set(image, n, shares), SASNUVARTH_DONE);
+    memcpy(before, image, sizeof image);
+    expect("batch of a part of an item", sasnuvarth_batch(image, n, items, ALL - 1, places, ITEMS), SASNUVARTH_FORM);
+    expect("batch of a part and no place", sasnuvarth_batch(image, n, items, ALL - 1, places, 0), SASNUVARTH_FORM);
+    expect("batch with a place too few", sasnuvarth_batch(image, n, items, ALL, places, ITEMS - 1), SASNUVARTH_ROOM);
+    expect("batch on less", sasnuvarth_batch(image, n - 1, items, ALL - 1, places, 0), SASNUVARTH_IMAGE);
+    expect("batch of nothing", sasnuvarth_batch(image, n, items, 0, places, 0), SASNUVARTH_DONE);
+    expect_words("its image", image, before, n);
+    expect_words("its places", places, lent, ITEMS + 1);
+    expect("batch", sasnuvarth_batch(image, n, items, ALL, places, ITEMS + 1), SASNUVARTH_DONE);
+    expect_words("batch's numbers, and a further place", places, right, ITEMS + 1);
+    expect("what a batch left", sasnuvarth_descendants(image, n, 0, 1, 100, 0, out, 24).count, 2);
+    expect_words("its words", out, left, 8);
+}
+
 int main(void) {
     const uint32_t shares[16] = {10};
     expect("open outer", sasnuvarth_open_set(outer, SASNUVARTH_IMAGE_WORDS, shares), SASNUVARTH_DONE);
@@ -143,6 +178,7 @@ int main(void) {
     check_searches();
     check_join();
     check_desk();
+    check_batch();
     expect("delete", sasnuvarth_delete(outer, SASNUVARTH_IMAGE_WORDS, 0, 30), SASNUVARTH_DONE);
     expect("delete again", sasnuvarth_delete(outer, SASNUVARTH_IMAGE_WORDS, 0, 30), SASNUVARTH_ABSENT);
     if (!wrong) {

@@ -15,6 +15,8 @@ struct region {
 };
 
 static uint32_t image[WORDS], out[4 * REGIONS], buffer[SASNUVARTH_BUFFER_WORDS];
+static uint32_t items[SASNUVARTH_ITEM_WORDS * REGIONS], places[REGIONS];
+static size_t item_words;
 static const uint32_t shares[SASNUVARTH_ACCOUNTS] = {REGIONS};
 static struct sasnuvarth_desk desk;
 
@@ -35,6 +37,7 @@ static uint32_t number;    /* what it answered */
 CALL(open_set, sasnuvarth_open_set(image, WORDS, shares))
 CALL(save, sasnuvarth_save(image, WORDS, 0, what.start, what.end, what.level, 1))
 CALL(delete, sasnuvarth_delete(image, WORDS, 0, what.start))
+CALL(batch, sasnuvarth_batch(image, WORDS, items, item_words, places, REGIONS))
 CALL(ancestors, sasnuvarth_ancestors(image, WORDS, 0, what.start, SASNUVARTH_STRICT, out, 4 * REGIONS).number)
 CALL(parent, sasnuvarth_parent(image, WORDS, 0, what.start, what.level).number)
 CALL(descendants, sasnuvarth_descendants(image, WORDS, 0, what.start, what.end, 0, out, 4 * REGIONS).number)
@@ -62,13 +65,14 @@ static size_t used_by(void (*call)(void)) {
 
 /* THE ROWS: the most that was seen of each kind of call, by the levels of the tree before it */
 enum row {
-    OPEN_SET, TEST, LEAF, OWNER, SPLIT, DELETE_TEST, DELETE, ANCESTORS, PARENT, DESCENDANTS, CHILDREN, JOIN,
-    OPEN_DESK, OPEN_SEAT, CLOSE_SEAT, ROUND, PART, ROWS
+    OPEN_SET, TEST, LEAF, OWNER, SPLIT, DELETE_TEST, DELETE, BATCH_TEST, BATCH_SAVE, BATCH_DELETE, BATCH_SAVES, BATCH_DELETES,
+    ANCESTORS, PARENT, DESCENDANTS, CHILDREN, JOIN, OPEN_DESK, OPEN_SEAT, CLOSE_SEAT, ROUND, PART, ROWS
 };
 
 static const char *names[ROWS] = {
     "open_set", "save, refused behind the test", "save into a leaf with room", "the same, and into a list", "save with a split",
-    "delete, refused behind the test", "delete", "ancestors", "parent", "descendants", "children", "join", "open_desk", "open_seat", "close_seat", "round", "part",
+    "delete, refused behind the test", "delete", "batch, refused behind the test", "batch of a save", "batch of a delete", "batch of 500 saves",
+    "batch of 500 deletes", "ancestors", "parent", "descendants", "children", "join", "open_desk", "open_seat", "close_seat", "round", "part",
 };
 static size_t most[ROWS][LEVELS + 1];
 
@@ -81,6 +85,22 @@ static void measure(enum row row, void (*call)(void), uint32_t right) {
     }
     if (used > most[row][levels])
         most[row][levels] = used;
+}
+
+/* A batch of which every item has to be done. */
+static void measure_batch(enum row row, uint32_t first, const struct region *r, size_t n) {
+    for (size_t i = 0; i < n; i++) {
+        const uint32_t item[] = {first, 0, r[i].start, r[i].end, r[i].level, 1};
+        memcpy(items + i * SASNUVARTH_ITEM_WORDS, item, sizeof item);
+        places[i] = SASNUVARTH_FORM;
+    }
+    item_words = n * SASNUVARTH_ITEM_WORDS;
+    measure(row, batch, SASNUVARTH_DONE);
+    for (size_t i = 0; i < n; i++)
+        if (places[i] != SASNUVARTH_DONE) {
+            printf("%s: item %lu: %u\n", names[row], (unsigned long)i, (unsigned)places[i]);
+            exit(1);
+        }
 }
 
 /* SETS */
@@ -135,18 +155,37 @@ static unsigned pages(void) { return in_use(0, 57, 160); }
 
 static unsigned records(void) { return in_use(9177 + 1, 6, 500); }
 
-/* The save is made once for its kind and taken back, then measured. */
+static uint32_t before[WORDS];
+
+static void keep(void) { memcpy(before, image, sizeof image); }
+
+static void take_back(void) { memcpy(image, before, sizeof image); }
+
+/* The save is made once for its kind and taken back, then measured: alone, and as a batch. */
 static void measure_save(struct region r) {
-    static uint32_t before[WORDS];
     unsigned p = pages(), q = records();
     what = (struct region){5, 5, 1};
     measure(TEST, save, SASNUVARTH_REGION);
-    memcpy(before, image, sizeof image);
+    item_words = 1;
+    measure(BATCH_TEST, batch, SASNUVARTH_FORM);
+    keep();
     what = r;
     save();
     enum row row = pages() > p ? SPLIT : records() > q ? OWNER : LEAF;
-    memcpy(image, before, sizeof image);
+    take_back();
     measure(row, save, SASNUVARTH_DONE);
+    take_back();
+    measure_batch(BATCH_SAVE, SASNUVARTH_ITEM_SAVE, &r, 1);
+}
+
+static void measure_delete(struct region r) {
+    what = (struct region){0xffffffff, 0, 0}; /* of another account */
+    measure(DELETE_TEST, delete, SASNUVARTH_ACCOUNT);
+    keep();
+    what = r;
+    measure(DELETE, delete, SASNUVARTH_DONE);
+    take_back();
+    measure_batch(BATCH_DELETE, SASNUVARTH_ITEM_DELETE, &r, 1);
 }
 
 static void measure_queries(struct region r) {
@@ -170,18 +209,20 @@ static void measure_desk(void) {
 
 static void play(struct region *r) {
     measure(OPEN_SET, open_set, SASNUVARTH_DONE);
+    keep();
+    measure_batch(BATCH_SAVES, SASNUVARTH_ITEM_SAVE, r, REGIONS);
+    take_back();
     for (size_t i = 0; i < REGIONS; i++)
         measure_save(r[i]);
     for (size_t i = 0; i < REGIONS; i++)
         measure_queries(r[i]);
     measure_desk();
     shuffle(r);
-    for (size_t i = 0; i < REGIONS; i++) {
-        what = (struct region){0xffffffff, 0, 0}; /* of another account */
-        measure(DELETE_TEST, delete, SASNUVARTH_ACCOUNT);
-        what = r[i];
-        measure(DELETE, delete, SASNUVARTH_DONE);
-    }
+    keep();
+    measure_batch(BATCH_DELETES, SASNUVARTH_ITEM_DELETE, r, REGIONS);
+    take_back();
+    for (size_t i = 0; i < REGIONS; i++)
+        measure_delete(r[i]);
 }
 
 int main(void) {

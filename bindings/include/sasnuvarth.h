@@ -24,13 +24,14 @@ enum {
     SASNUVARTH_ACCOUNTS = 16,
     SASNUVARTH_REGION_WORDS = 4, /* start, end, level, reference */
     SASNUVARTH_PAIR_WORDS = 4,   /* a start, a reference, d start, d reference */
+    SASNUVARTH_ITEM_WORDS = 6,   /* save or delete, account, start, end, level, reference */
     SASNUVARTH_SEATS = 8,
     SASNUVARTH_HOUSE_LIMIT = 8,   /* pairs a round of a seat opened with limit 0 */
     SASNUVARTH_MOST_A_ROUND = 32, /* pairs a round that a seat may ask for at most */
     SASNUVARTH_BUFFER_WORDS = 1024 /* 128 for each seat */
 };
 
-/* A call's number: 0, or the first test that it failed. A refusal changes no lent word. */
+/* A call's number: 0, or the first test that it failed. A refusal changes no lent word. Each item of a batch has such a number of its own. */
 enum {
     SASNUVARTH_DONE = 0,
     SASNUVARTH_IMAGE = 1,   /* not 12,288 words, or not valid */
@@ -44,7 +45,15 @@ enum {
     SASNUVARTH_SEAT = 9,    /* seat above 7, opened twice, or closed */
     SASNUVARTH_LIMIT = 10,  /* limit above 32, or a count above the seat's limit */
     SASNUVARTH_DESK = 11,   /* an open seat out of its ranges, or not 1,024 words of buffer */
+    SASNUVARTH_FORM = 12,   /* a batch's words are not whole items; of an item: its first word is neither of the two */
+    SASNUVARTH_ROOM = 13,   /* fewer places than items */
     SASNUVARTH_LEVEL = 14   /* its level contradicts one around it or inside it (those around have smaller levels, those inside greater); asked behind CROSS */
+};
+
+/* The first word of an item. */
+enum {
+    SASNUVARTH_ITEM_SAVE = 0,
+    SASNUVARTH_ITEM_DELETE = 1 /* behind its start no word is read */
 };
 
 /* Whether a region that starts at a position holds it: any number but 0 is with self. One that ends there never does. */
@@ -93,6 +102,11 @@ uint32_t sasnuvarth_save(uint32_t *image, size_t image_words, uint32_t account,
                          uint32_t start, uint32_t end, uint32_t level, uint32_t reference);
 
 uint32_t sasnuvarth_delete(uint32_t *image, size_t image_words, uint32_t account, uint32_t start);
+
+/* Saves and deletes in the items' order, with one test of the image for all of them. Place i gets item i's number: what the single call would
+   answer on what the items before it left. A refused item changes nothing and does not stop the others. Further places stay. */
+uint32_t sasnuvarth_batch(uint32_t *image, size_t image_words, const uint32_t *items, size_t item_words,
+                          uint32_t *places, size_t place_words);
 
 /* The regions that hold p, by the choice, outermost first; with self the one that starts at p is the last. */
 struct sasnuvarth_ancestors_answer

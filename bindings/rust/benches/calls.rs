@@ -1,5 +1,5 @@
 //! Times every call at 0, 100 and 500 regions in three shapes, and prints ratios: what part of a call is the test of its image, and how
-//! the call stands to a sorted array that is scanned; joins also to a Stack-Tree-Desc merge join.
+//! the call stands to a sorted array that is scanned; joins also to a Stack-Tree-Desc merge join; and a batch to its items as single calls.
 //!
 //! What is compared is timed in turn, in one run, and the median of many turns is taken. The test alone is timed by a call that is
 //! refused right behind it (an account above 15).
@@ -10,7 +10,7 @@ mod chance;
 mod sorted;
 
 use chance::{nest, Chance, Shape};
-use sasnuvarth::{Choice, Desk, Kind, Region, BUFFER_WORDS};
+use sasnuvarth::{Choice, Desk, Item, Kind, Region, BUFFER_WORDS};
 use sorted::{Out, Sorted};
 use std::hint::black_box;
 use std::time::Instant;
@@ -281,6 +281,63 @@ fn bench_round(shape: Shape, n: usize) {
     line("round", shape, n, told);
 }
 
+const BATCH: usize = 500;
+
+fn item_singly(image: &mut [u32], item: &Item) {
+    match *item {
+        Item::Save { account, region } => sasnuvarth::save(image, account, region),
+        Item::Delete { account, start } => sasnuvarth::delete(image, account, start),
+    }
+    .unwrap();
+}
+
+/// Changes of a set as single calls and as one batch. The tests alone are timed on the sets that the single calls meet, so that the table
+/// shows whether a batch takes one of them, of the set before it, and what the single calls take beside theirs.
+fn bench_batch(what: &str, shape: Shape, from: &[u32], full: &[u32], items: &[Item]) {
+    let words: Vec<u32> = items.iter().flat_map(|i| i.words()).collect();
+    let mut places = vec![1; items.len()];
+    let [single, tests, batch, one_test, full_test] = medians(|| {
+        let mut image = [from.to_vec(), from.to_vec(), from.to_vec()];
+        places.fill(1);
+        let mut tests = 0.0;
+        for item in items {
+            tests += time(1, || refused_behind_the_test(&image[0]));
+            item_singly(&mut image[0], item);
+        }
+        let told = [
+            time(1, || items.iter().for_each(|item| item_singly(&mut image[1], black_box(item)))),
+            tests,
+            time(1, || sasnuvarth::batch(&mut image[2], black_box(&words), &mut places).unwrap()),
+            time(16, || (0..16).for_each(|_| refused_behind_the_test(from))),
+            time(16, || (0..16).for_each(|_| refused_behind_the_test(full))),
+        ];
+        assert!(places.iter().all(|&n| n == 0));
+        told
+    });
+    println!(
+        "| {} {what} | {} | {:.0} | {:.0} | {:.0} | {:.1} | {:.1} | {:.3} |",
+        items.len(),
+        shape_name(shape),
+        single / 1000.0,
+        (single - tests) / 1000.0,
+        batch / 1000.0,
+        one_test / 1000.0,
+        full_test / 1000.0,
+        batch / single
+    );
+}
+
+/// A set grown from nothing to 500 regions, and emptied again in another order.
+fn bench_batches(shape: Shape) {
+    let Case { mut regions, .. } = case(shape, BATCH);
+    let (none, full) = (both(&[]).image, both(&regions).image);
+    let saves: Vec<Item> = regions.iter().map(|r| Item::Save { account: 0, region: *r }).collect();
+    bench_batch("saves", shape, &none, &full, &saves);
+    Chance::new(2).shuffle(&mut regions);
+    let deletes: Vec<Item> = regions.iter().map(|r| Item::Delete { account: 0, start: r.start }).collect();
+    bench_batch("deletes", shape, &full, &full, &deletes);
+}
+
 fn bench_opening() {
     let mut image = sasnuvarth::blank_image();
     let [ours, plain] = medians(|| {
@@ -306,6 +363,9 @@ fn main() {
             bench_round(shape, n);
         }
     }
+    println!("\n| items | shape | single calls, µs | without their tests, µs | a batch, µs | a test of the set before, µs | of the full set, µs | batch / single calls |");
+    println!("|---|---|---|---|---|---|---|---|");
+    shapes.into_iter().for_each(bench_batches);
     println!("\n| join | pairs | µs | of it the tests | times a scan | times a merge | without the tests, times a merge |");
     println!("|---|---|---|---|---|---|---|");
     for shape in shapes {

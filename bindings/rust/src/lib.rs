@@ -15,6 +15,9 @@ pub use desk::{Desk, Mark, Seat, BUFFER_WORDS, HOUSE_LIMIT, MOST_A_ROUND};
 /// Words of an image.
 pub const IMAGE_WORDS: usize = 12288;
 
+/// Words of an item of a batch.
+pub const ITEM_WORDS: usize = 6;
+
 /// An element of a document: where it starts and ends, its depth, and the caller's reference to it.
 #[derive(Clone, Copy, Debug, PartialEq, Eq)]
 pub struct Region {
@@ -22,6 +25,23 @@ pub struct Region {
     pub end: u32,
     pub level: u32,
     pub reference: u32,
+}
+
+/// One change of a batch.
+#[derive(Clone, Copy, Debug, PartialEq, Eq)]
+pub enum Item {
+    Save { account: u32, region: Region },
+    Delete { account: u32, start: u32 },
+}
+
+impl Item {
+    /// As a batch takes it. Behind a delete's start no word is read; here they are 0.
+    pub fn words(self) -> [u32; ITEM_WORDS] {
+        match self {
+            Item::Save { account, region: Region { start, end, level, reference } } => [0, account, start, end, level, reference],
+            Item::Delete { account, start } => [1, account, start, 0, 0, 0],
+        }
+    }
 }
 
 /// Whether a region that starts at a position holds it. One that ends there never does.
@@ -92,6 +112,10 @@ pub enum Refusal {
     Limit = 10,
     /// An open seat is out of its ranges, or the buffer is not of 1,024 words.
     Desk = 11,
+    /// A batch's words are not whole items; of an item: its first word is neither a save's nor a delete's.
+    Form = 12,
+    /// There are fewer places than items.
+    Room = 13,
     /// Its level contradicts a held region's: it has to be greater than those of all regions around it, and smaller than those of all inside.
     Level = 14,
 }
@@ -111,6 +135,8 @@ impl Refusal {
             9 => Refusal::Seat,
             10 => Refusal::Limit,
             11 => Refusal::Desk,
+            12 => Refusal::Form,
+            13 => Refusal::Room,
             14 => Refusal::Level,
             _ => return None,
         })
@@ -162,6 +188,16 @@ pub fn save(image: &mut [u32], account: u32, region: Region) -> Answer<()> {
 /// Deletes the region that starts at `start`.
 pub fn delete(image: &mut [u32], account: u32, start: u32) -> Answer<()> {
     let number = unsafe { raw::sasnuvarth_delete(image.as_mut_ptr(), image.len(), account, start) };
+    done(number, ())
+}
+
+/// Saves and deletes in the items' order, six words each ([`Item::words`]; any words may be given), with one test of the image for all of
+/// them. Each item's place gets its number: what the single call would answer on what the items before it left ([`Refusal::of`] names it; 0 is
+/// done). A refused item changes nothing and does not stop the others. Further places stay.
+pub fn batch(image: &mut [u32], items: &[u32], places: &mut [u32]) -> Answer<()> {
+    let number = unsafe {
+        raw::sasnuvarth_batch(image.as_mut_ptr(), image.len(), items.as_ptr(), items.len(), places.as_mut_ptr(), places.len())
+    };
     done(number, ())
 }
 

@@ -80,6 +80,14 @@ extern "C" {
         reference: u32,
     ) -> u32;
     pub fn sasnuvarth_delete(image: *mut u32, image_words: usize, account: u32, start: u32) -> u32;
+    pub fn sasnuvarth_batch(
+        image: *mut u32,
+        image_words: usize,
+        items: *const u32,
+        item_words: usize,
+        places: *mut u32,
+        place_words: usize,
+    ) -> u32;
     pub fn sasnuvarth_ancestors(
         image: *const u32,
         image_words: usize,

@@ -6,7 +6,7 @@ use plain::chance::{mislevel, nest, Chance, Shape, SHAPES};
 use plain::image::{read, Read};
 use plain::*;
 use sasnuvarth::raw::*;
-use sasnuvarth::{Ancestors, Choice, Kind, Listed, Refusal, Region, IMAGE_WORDS};
+use sasnuvarth::{Ancestors, Choice, Item, Kind, Listed, Refusal, Region, IMAGE_WORDS, ITEM_WORDS};
 
 /// A set as the library has it, and what it should mean: none where the image is not valid.
 struct Side {
@@ -22,9 +22,9 @@ fn open(shares: [u32; 16]) -> Side {
 
 // ---- calls that change a set
 
-/// The number of a call on a set: IMAGE first.
-fn number_of(held: &Option<Set>, own: impl Fn(&Set) -> u32) -> u32 {
-    held.as_ref().map_or(IMAGE, own)
+/// The number of a call that changes a set: IMAGE first.
+fn number_of(held: &mut Option<Set>, own: impl FnOnce(&mut Set) -> u32) -> u32 {
+    held.as_mut().map_or(IMAGE, own)
 }
 
 fn check_open(image: &[u32], shares: [u32; 16]) {
@@ -46,11 +46,9 @@ fn check_save(side: &mut Side, account: u32, r: Region) -> u32 {
     let before = side.image.clone();
     let image = &mut side.image;
     let number = unsafe { sasnuvarth_save(image.as_mut_ptr(), image.len(), account, r.start, r.end, r.level, r.reference) };
-    assert_eq!(number, number_of(&side.held, |s| s.save_number(account, &r)), "save {r:?} in {account}");
+    assert_eq!(number, number_of(&mut side.held, |s| s.save(account, r)), "save {r:?} in {account}");
     if number != 0 {
         assert_eq!(*image, before, "a refusal changes no word");
-    } else if let Some(set) = &mut side.held {
-        set.regions.push(r);
     }
     let mut again = before;
     assert_eq!(sasnuvarth::save(&mut again, account, r).err(), Refusal::of(number));
@@ -62,16 +60,48 @@ fn check_delete(side: &mut Side, account: u32, start: u32) -> u32 {
     let before = side.image.clone();
     let image = &mut side.image;
     let number = unsafe { sasnuvarth_delete(image.as_mut_ptr(), image.len(), account, start) };
-    assert_eq!(number, number_of(&side.held, |s| s.delete_number(account, start)), "delete {start} of {account}");
+    assert_eq!(number, number_of(&mut side.held, |s| s.delete(account, start)), "delete {start} of {account}");
     if number != 0 {
         assert_eq!(*image, before, "a refusal changes no word");
-    } else if let Some(set) = &mut side.held {
-        set.regions.retain(|r| r.start != start);
     }
     let mut again = before;
     assert_eq!(sasnuvarth::delete(&mut again, account, start).err(), Refusal::of(number));
     assert_eq!(again, *image);
     number
+}
+
+/// An item by the library's own single call; its number.
+fn singly(image: &mut [u32], item: &[u32]) -> u32 {
+    match item[0] {
+        0 => unsafe { sasnuvarth_save(image.as_mut_ptr(), image.len(), item[1], item[2], item[3], item[4], item[5]) },
+        1 => unsafe { sasnuvarth_delete(image.as_mut_ptr(), image.len(), item[1], item[2]) },
+        _ => FORM,
+    }
+}
+
+/// A batch, once more by the safe call, and once more by single calls: these leave the same set, with the same numbers.
+fn check_batch(side: &mut Side, items: &[u32], lent: &[u32]) -> (u32, Vec<u32>) {
+    let before = side.image.clone();
+    let (image, mut places) = (&mut side.image, lent.to_vec());
+    let number = unsafe {
+        sasnuvarth_batch(image.as_mut_ptr(), image.len(), items.as_ptr(), items.len(), places.as_mut_ptr(), places.len())
+    };
+    let right = side.held.as_mut().map_or((IMAGE, lent.to_vec()), |s| s.batch(items, lent));
+    assert_eq!((number, &places), (right.0, &right.1), "batch of {items:?}, {} places", lent.len());
+    let told = if number == 0 { &places[..items.len() / ITEM_WORDS] } else { &[] };
+    if told.iter().all(|&n| n != 0) {
+        assert_eq!(*image, before, "a refusal changes no word");
+    }
+    let (mut again, mut out) = (before.clone(), lent.to_vec());
+    assert_eq!(sasnuvarth::batch(&mut again, items, &mut out).err(), Refusal::of(number));
+    assert_eq!((&again, &out), (&*image, &places));
+    if number == 0 {
+        let mut other = before;
+        let numbers: Vec<u32> = items.chunks_exact(ITEM_WORDS).map(|item| singly(&mut other, item)).collect();
+        assert_eq!(told, numbers, "one by one");
+        assert_eq!(read(&other).map(|m| m.set), read(image).map(|m| m.set), "what is left, one by one");
+    }
+    (number, places)
 }
 
 // ---- searches: each takes what the image means, and the words to lend
@@ -282,21 +312,82 @@ fn one_change(chance: &mut Chance, side: &mut Side, pool: &[Region], saves: u32)
     check_delete(side, account, start)
 }
 
+/// Words of a delete: those behind its start mean nothing.
+fn delete_words(chance: &mut Chance, account: u32, start: u32) -> [u32; ITEM_WORDS] {
+    [1, account, start, chance.word(), chance.word(), chance.word()]
+}
+
+/// An item: a save, a delete of what is held or may be by then, or neither.
+fn some_item(chance: &mut Chance, held: &[Region], pool: &[Region], saves: u32) -> [u32; ITEM_WORDS] {
+    let mut item = if chance.percent(saves) {
+        let r = candidate(chance, pool);
+        Item::Save { account: account_for(chance, r.start), region: r }.words()
+    } else {
+        let from = if held.is_empty() || chance.percent(30) { pool } else { held };
+        let start = if chance.percent(80) && !from.is_empty() { chance.pick(from).start } else { position(chance, pool) };
+        let account = account_for(chance, start);
+        delete_words(chance, account, start)
+    };
+    if chance.percent(5) {
+        let other = 2 + chance.below(u32::MAX - 1);
+        item[0] = chance.pick(&[2, 3, 256, 65_536, 1 << 31, u32::MAX, other]);
+    }
+    item
+}
+
+/// Items, some of them followed by a delete of the same start and by themselves again.
+fn some_items(chance: &mut Chance, held: &[Region], pool: &[Region], saves: u32, n: usize) -> Vec<u32> {
+    let mut items = Vec::new();
+    while items.len() < n * ITEM_WORDS {
+        let item = some_item(chance, held, pool, saves);
+        items.extend(item);
+        if chance.percent(10) {
+            items.extend(delete_words(chance, item[1], item[2]));
+            items.extend(item);
+        }
+    }
+    items.truncate(n * ITEM_WORDS);
+    items
+}
+
+/// A batch, now and then of words that are not whole items, or with too few places. Tells its items too.
+fn one_batch(chance: &mut Chance, side: &mut Side, pool: &[Region], saves: u32) -> (u32, Vec<u32>, Vec<u32>) {
+    let n = if chance.percent(5) { 0 } else { chance.below(25) as usize };
+    let mut items = some_items(chance, side.held.as_ref().map_or(pool, |s| &s.regions), pool, saves, n);
+    if chance.percent(10) {
+        items.truncate(items.len().saturating_sub(1 + chance.below(5) as usize));
+    }
+    let places = match chance.below(10) {
+        0 => chance.below(1 + n as u32) as usize,
+        1..=4 => n + chance.below(10) as usize,
+        _ => n,
+    };
+    let lent = chance.words(places);
+    let (number, places) = check_batch(side, &items, &lent);
+    (number, items, places)
+}
+
 // ---- the tests
 
-/// Many small sets in tight places, where most things meet.
+/// Shares, and some regions of one account to draw from, where most things meet.
+fn tight_places(chance: &mut Chance, shape: Shape) -> ([u32; 16], Vec<Region>) {
+    let account = chance.pick(&[0, 1, 7, 15]);
+    let base = account * 268_435_456 + chance.below(4096) * 65_536 + chance.pick(&[0, 0, 64_000]);
+    let (gap, n) = (1 + chance.below(3), 10 + chance.below(60));
+    let mut pool = nest(chance, shape, base, gap, n);
+    mislevel(chance, &mut pool);
+    let mut shares = [2; 16];
+    shares[account as usize] = chance.pick(&[0, 1, 5, 30, 100, 470]);
+    (shares, pool)
+}
+
+/// Many small sets in tight places.
 #[test]
 fn short_histories() {
     let mut met = [0u32; 15];
     for seed in 0..300 {
         let chance = &mut Chance::new(seed);
-        let account = chance.pick(&[0, 1, 7, 15]);
-        let base = account * 268_435_456 + chance.below(4096) * 65_536 + chance.pick(&[0, 0, 64_000]);
-        let (shape, gap, n) = (SHAPES[seed as usize % 3], 1 + chance.below(3), 10 + chance.below(60));
-        let mut pool = nest(chance, shape, base, gap, n);
-        mislevel(chance, &mut pool);
-        let mut shares = [2; 16];
-        shares[account as usize] = chance.pick(&[0, 1, 5, 30, 100, 470]);
+        let (shares, pool) = tight_places(chance, SHAPES[seed as usize % 3]);
         let (mut outer, mut inner) = (open(shares), open(shares));
         for step in 0..60 {
             let side = if chance.percent(60) { &mut outer } else { &mut inner };
@@ -310,9 +401,8 @@ fn short_histories() {
     assert!([0, 2, 3, 4, 5, 6, 7, 14].iter().all(|&n| met[n] > 20), "every number is met: {met:?}");
 }
 
-/// Sets grown to 500 regions, changed for long, and emptied, in each shape and order.
-fn long_history(seed: u64, shape: Shape, order: u32, accounts: u32) {
-    let chance = &mut Chance::new(seed);
+/// Shares that sum to 500, and for each account twenty regions more than its share.
+fn in_order(chance: &mut Chance, shape: Shape, order: u32, accounts: u32) -> ([u32; 16], Vec<Region>) {
     let mut shares = [0; 16];
     let mut pool = Vec::new();
     for i in 0..accounts {
@@ -326,6 +416,13 @@ fn long_history(seed: u64, shape: Shape, order: u32, accounts: u32) {
         1 => pool.sort_by_key(|r| std::cmp::Reverse(r.start)),
         _ => chance.shuffle(&mut pool),
     }
+    (shares, pool)
+}
+
+/// Sets grown to 500 regions, changed for long, and emptied, in each shape and order.
+fn long_history(seed: u64, shape: Shape, order: u32, accounts: u32) {
+    let chance = &mut Chance::new(seed);
+    let (shares, pool) = in_order(chance, shape, order, accounts);
     let (mut outer, mut inner) = (open(shares), open(shares));
     for (i, r) in pool.iter().enumerate() {
         check_save(&mut outer, account_of(r.start), *r);
@@ -372,6 +469,80 @@ fn long_histories_mixed() {
 #[test]
 fn long_histories_deep() {
     (0..3).for_each(|order| long_history(300 + u64::from(order), Shape::Deep, order, 1 + order));
+}
+
+/// Whether one of the batch is told SHARE, then one of its account is deleted and another one saved.
+fn freed(items: &[u32], told: &[u32]) -> bool {
+    let items: Vec<&[u32]> = items.chunks_exact(ITEM_WORDS).collect();
+    let Some(full) = told.iter().position(|&n| n == SHARE) else { return false };
+    let next = |first: u32, from: usize| (from..items.len()).find(|&i| told[i] == 0 && items[i][..2] == [first, items[full][1]]);
+    next(1, full).and_then(|deleted| next(0, deleted)).is_some()
+}
+
+/// Whether some start is saved, deleted and saved in the batch.
+fn saved_again(items: &[u32], told: &[u32]) -> bool {
+    let done: Vec<&[u32]> = items.chunks_exact(ITEM_WORDS).zip(told).filter(|(_, &n)| n == 0).map(|(item, _)| item).collect();
+    done.iter().any(|i| done.iter().filter(|j| j[0] == 0 && j[2] == i[2]).count() > 1)
+}
+
+/// Many small batches in tight places, on sets that the batches before have made.
+#[test]
+fn short_batches() {
+    let (mut calls, mut met, mut freeing, mut again, mut empty, mut further) = ([0u32; 15], [0u32; 15], 0, 0, 0, 0);
+    for seed in 0..200 {
+        let chance = &mut Chance::new(7000 + seed);
+        let (shares, pool) = tight_places(chance, SHAPES[seed as usize % 3]);
+        let (mut outer, mut inner) = (open(shares), open(shares));
+        for _ in 0..20 {
+            let side = if chance.percent(60) { &mut outer } else { &mut inner };
+            let (number, items, places) = one_batch(chance, side, &pool, 70);
+            look(chance, &outer, &inner, &pool, 3);
+            calls[number as usize] += 1;
+            if number == 0 {
+                let told = &places[..items.len() / ITEM_WORDS];
+                told.iter().for_each(|&n| met[n as usize] += 1);
+                freeing += u32::from(freed(&items, told));
+                again += u32::from(saved_again(&items, told));
+                empty += u32::from(items.is_empty());
+                further += u32::from(places.len() > told.len());
+            }
+        }
+    }
+    println!("numbers of batches: {calls:?}; of their items: {met:?}");
+    println!("a share freed in {freeing}, a start saved again in {again}, no items in {empty}, further places in {further}");
+    assert!([0, 12, 13].iter().all(|&n| calls[n] > 20), "every number of a batch is met: {calls:?}");
+    assert!([0, 2, 3, 4, 5, 6, 7, 12, 14].iter().all(|&n| met[n] > 20), "every number of an item is met: {met:?}");
+    assert!([freeing, again, empty, further].iter().all(|&n| n > 20));
+}
+
+/// Sets grown to 500 regions by one batch, changed by others, and emptied by one, in each shape and order.
+fn long_batches(seed: u64, shape: Shape, order: u32, accounts: u32) {
+    let chance = &mut Chance::new(seed);
+    let (shares, pool) = in_order(chance, shape, order, accounts);
+    let (mut side, other) = (open(shares), open(shares));
+    let items: Vec<u32> = pool.iter().flat_map(|r| Item::Save { account: account_of(r.start), region: *r }.words()).collect();
+    let (number, places) = check_batch(&mut side, &items, &chance.words(pool.len()));
+    let done = 500 / accounts as usize * accounts as usize;
+    assert_eq!((number, places.iter().filter(|&&n| n == 0).count()), (0, done));
+    assert_eq!(places.iter().filter(|&&n| n == SHARE).count(), 20 * accounts as usize);
+    look(chance, &side, &other, &pool, 40);
+    for _ in 0..10 {
+        let items = some_items(chance, &side.held.as_ref().unwrap().regions, &pool, 50, 100);
+        assert_eq!(check_batch(&mut side, &items, &chance.words(100)).0, 0);
+        look(chance, &side, &other, &pool, 8);
+    }
+    let mut held = side.held.as_ref().unwrap().regions.clone();
+    chance.shuffle(&mut held);
+    let items: Vec<u32> = held.iter().flat_map(|r| delete_words(chance, account_of(r.start), r.start)).collect();
+    assert_eq!(check_batch(&mut side, &items, &chance.words(held.len())), (0, vec![0; held.len()]));
+    look(chance, &side, &other, &pool, 8);
+}
+
+#[test]
+fn long_batches_of_each_shape() {
+    for (i, shape) in SHAPES.into_iter().enumerate() {
+        (0..3).for_each(|order| long_batches(8000 + 10 * i as u64 + u64::from(order), shape, order, 1 + order));
+    }
 }
 
 /// A word that an image uses, more often than not.
@@ -435,6 +606,7 @@ fn damaged_images() {
             look(chance, &good, &bad, &pool, 2);
             one_change(chance, &mut bad, &pool, 100);
             one_change(chance, &mut bad, &pool, 0);
+            one_batch(chance, &mut bad, &pool, 50);
             check_open(&bad.image, [chance.below(40); 16]);
         }
     }
@@ -461,6 +633,7 @@ fn other_lengths() {
         look(chance, &good, &bad, &pool, 20);
         one_change(chance, &mut bad, &pool, 100);
         one_change(chance, &mut bad, &pool, 0);
+        (0..10).for_each(|_| assert_eq!(one_batch(chance, &mut bad, &pool, 50).0, IMAGE));
     }
     check_open(&good.image, [31; 16]);
     check_open(&good.image, [32; 16]);
@@ -560,4 +733,61 @@ fn as_deep_as_levels() {
         assert_eq!(check_save(&mut side, 0, Region { start: 2_555, end: 2_556, level, reference: 0 }), LEVEL);
     }
     look(&mut Chance::new(3), &side, &open(shares), &[region(7, 7), region(255, 255)], 40);
+}
+
+/// By hand: a share of two is full, freed and filled again; a start is saved, deleted and saved; none of the refused stops the others.
+#[test]
+fn batch_by_hand() {
+    let mut shares = [0; 16];
+    shares[0] = 2;
+    let mut side = open(shares);
+    let save = |account, start, end, level| {
+        let region = Region { start, end, level, reference: 100 + start };
+        Item::Save { account, region }.words()
+    };
+    let delete = |account, start| Item::Delete { account, start }.words();
+    assert_eq!(save(3, 10, 90, 1), [0, 3, 10, 90, 1, 110]);
+    assert_eq!(delete(3, 10)[..3], [1, 3, 10]);
+    let steps = [
+        (save(0, 10, 90, 1), 0),
+        (save(0, 20, 50, 2), 0),
+        (save(0, 60, 80, 2), SHARE),
+        ([2, 0, 20, 50, 2, 0], FORM),
+        ([1, 0, 20, 7, 0, u32::MAX], 0),
+        ([1, 0, 20, 50, 2, 0], ABSENT),
+        (save(0, 60, 80, 2), 0),
+        (delete(0, 60), 0),
+        (save(0, 60, 70, 9), 0),
+        (save(0, 60, 70, 9), HELD),
+        ([0, 16, 50, 20, 2, 0], REGION),
+        (save(16, 30, 40, 2), ACCOUNT),
+        (save(1, 30, 40, 2), ACCOUNT),
+        (delete(16, 60), ACCOUNT),
+        ([u32::MAX, 16, 50, 20, 0, 0], FORM),
+        (save(0, 5, 65, 1), CROSS),
+        (save(0, 61, 62, 9), LEVEL),
+    ];
+    let items: Vec<u32> = steps.iter().flat_map(|s| s.0).collect();
+    let numbers: Vec<u32> = steps.iter().map(|s| s.1).collect();
+    // words that are not whole items, whatever the places; places too few; no words at all
+    let lent = vec![77; numbers.len() + 2];
+    for words in [1, 5, 7, items.len() - 1] {
+        assert_eq!(check_batch(&mut side, &items[..words], &lent), (FORM, lent.clone()));
+        assert_eq!(check_batch(&mut side, &items[..words], &[]), (FORM, vec![]));
+    }
+    assert_eq!(check_batch(&mut side, &items, &lent[3..]), (ROOM, lent[3..].to_vec()));
+    assert_eq!(check_batch(&mut side, &items[..6], &[]), (ROOM, vec![]));
+    assert_eq!(check_batch(&mut side, &[], &[]), (0, vec![]));
+    assert_eq!(check_batch(&mut side, &[], &lent), (0, lent.clone()));
+    let right: Vec<u32> = numbers.iter().copied().chain([77, 77]).collect();
+    assert_eq!(check_batch(&mut side, &items, &lent), (0, right));
+    let held = [(10, 90, 1), (60, 70, 9)].map(|(start, end, level)| Region { start, end, level, reference: 100 + start });
+    assert_eq!(read(&side.image).unwrap().set.regions, held);
+    // an image that is not valid: told before all else
+    side.image[1] = 0;
+    side.held = None;
+    for words in [0, 5, 6] {
+        assert_eq!(check_batch(&mut side, &items[..words], &[]), (IMAGE, vec![]));
+    }
+    assert_eq!(sasnuvarth::batch(&mut side.image, &items, &mut [0; 17]), Err(Refusal::Image));
 }

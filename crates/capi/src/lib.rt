@@ -2,6 +2,7 @@
 // Each export hands its arguments on and its answer back, so that its promise is the call's own record.
 ghost use Rattle.index.specs.Opening.{OpensSet};
 ghost use Rattle.index.specs.Changes.{Saves, Deletes};
+ghost use Rattle.index.specs.Batches.{Batches};
 ghost use Rattle.queries.specs.Searches.{FindsAncestors, FindsDescendants, FindsChildren};
 ghost use Rattle.queries.specs.Joins.{JoinsSets};
 ghost use Rattle.flat.specs.Numbers.{kindOf, choiceOfNumber};
@@ -84,6 +85,14 @@ pub extern "C" fn sasnuvarth_delete(img: &mut [u32], account: u32, start: u32) -
     ensures { λ n. ⌜ Deletes (now (img .entry)) account start n (now (img .exit)) ⌝ }
 {
     index::delete(img, account, start)
+}
+
+// Saves and deletes many, and tells each item's number in its place.
+#[no_mangle]
+pub extern "C" fn sasnuvarth_batch(img: &mut [u32], items: &[u32], places: &mut [u32]) -> u32
+    ensures { λ n. ⌜ Batches (now (img .entry)) (now (items .entry)) (now (places .entry)) n (now (img .exit)) (now (places .exit)) ⌝ }
+{
+    index::batch(img, items, places)
 }
 
 // The ancestors of position p, by the choice.

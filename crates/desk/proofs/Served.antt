@@ -6,7 +6,6 @@ use mathlib.Core.Bool.{Bool, true, false, not, _&&_, cond}
 use mathlib.Core.List.{List, [], _∷_, map}
 use lib.Dec.{T, eqb, eqb→eq, lit<}
 use lib.ListN.{length, replicate}
-use native.Mathlib.Omega.{arith}
 use denote.Laws.{Is}
 use denote.Builtin.{u32}
 use borrow.Author.Tests.{eq-eqb, ne-eqb}
@@ -18,6 +17,7 @@ use Rattle.regions.specs.Numbers.{unless, imageFirst}
 use Rattle.regions.specs.Sets.{Set}
 use Rattle.regions.specs.Desk.{deskFits, bufferFits, roundNo}
 use Rattle.regions.specs.declared.Seat.{Seat}
+use Rattle.regions.proofs.Numbers.{image-right, own-right}
 use Rattle.regions.proofs.Done.{fits-desk, round-done}
 use Rattle.image.specs.Read.{setOf}
 use Rattle.image.specs.Valid.{valid}
@@ -74,19 +74,16 @@ module _ (os ns : List ℕ) (ys : List Seat) where
     number-small =
         either (λ n. n < 2 ^ 32) (valid os && valid ns) _ _ (λ _. either (λ n. n < 2 ^ 32) (not (deskFits ys && bufferFits zs)) _ _ (λ _. lit< tt) (λ _. lit< tt)) (λ _. lit< tt)
 
-    by-images : (t : Bool) → _≡_ {A = ℕ} (imageFirst t (roundNo ys zs)) 0 → (t ≡ true) × (roundNo ys zs ≡ 0)
-    by-images true e = (refl, e)
-    by-images false e = absurd (omega arith)
-
     -- what a round that is not refused has shown
     pub tested : T (eqb numberOf 0) → MayServe os ns ys zs
     unfolding numberOf
     tested h =
-        let p = by-images (valid os && valid ns) (eqb→eq _ 0 h) in
-        let m = round-done ys zs (p .1) in
+        let z = sym (eqb→eq _ 0 h) in
+        let v = T-of (image-right (valid os && valid ns) (roundNo ys zs) z) in
+        let m = round-done ys zs (own-right (valid os && valid ns) (roundNo ys zs) z) in
         record {
-          outer-valid = of-T _ (and-left (valid os) (valid ns) (T-of (p .0)));
-          inner-valid = of-T _ (and-right (valid os) (valid ns) (T-of (p .0)));
+          outer-valid = of-T _ (and-left (valid os) (valid ns) v);
+          inner-valid = of-T _ (and-right (valid os) (valid ns) v);
           fits = fits-desk ys (m .fits);
           words = m .words;
         }

@@ -1,4 +1,5 @@
 pub mod Opened
 pub mod Empty
-pub mod Once
 pub mod Changed
+pub mod Batched
+pub mod Once

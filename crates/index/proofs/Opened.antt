@@ -33,7 +33,7 @@ pub put-done : (w shares : List ℕ) (a : ℕ) → length shares ≤ a → sets 
 put-done w shares a h = rw (drop-of-length-le shares h)
 
 -- THE WHOLE IMAGE
-sets-cons : (x : ℕ) (l : List ℕ) (i : ℕ) (vs : List ℕ) → sets (x ∷ l) (suc i) vs ≡ x ∷ sets l i vs
+pub sets-cons : (x : ℕ) (l : List ℕ) (i : ℕ) (vs : List ℕ) → sets (x ∷ l) (suc i) vs ≡ x ∷ sets l i vs
 sets-cons x l i [] = refl
 sets-cons x l i (v ∷ vs) = sets-cons x (set l i v) (suc i) vs
 

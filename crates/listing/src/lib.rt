@@ -69,14 +69,12 @@ fn take_region(
     }
     let r = l.region;
     let account = regions::account_of(r.start);
-    let number = changes::save(img, account, r, held);
-    if number != 0 {
-        return not_taken(number, held);
-    }
+    let kept = changes::save_kept(img, account, r, held);
+    let counts = kept.held;
     Taken {
-        number: 0,
+        number: kept.number,
         next: l.next,
-        held: changes::counted(held, account),
+        held: counts,
     }
 }
 

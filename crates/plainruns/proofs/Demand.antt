@@ -29,8 +29,8 @@ use Rattle.regions.proofs.Joined.{joined-ascends, past-drop}
 use Rattle.regions.proofs.Seats.{limit-small, handed-long, handed-fits, poured-long, poured-in, poured-out}
 use Rattle.plainruns.specs.Calls.{Which, State, setOf, Look, Call, Shown, Answer, says, refuses, lists, pages, finds, joins, dealt, handsBack, looked, answer, behindRound, next, Step, Done, Run, callsOf, Opened, shareGiven, byAccount, leftOut, reads, Same, Agree, left, Served, Passed}
 use Rattle.plainruns.specs.Calls.Which.{outer, inner}
-use Rattle.plainruns.specs.Calls.Look.{ancestorSearch, parentSearch, descendantSearch, childSearch, join}
-use Rattle.plainruns.specs.Calls.Call.{save, delete, look, round, openSeat, closeSeat, askPart, askPartNo}
+use Rattle.plainruns.specs.Calls.Look.{ancestorSearch, parentSearch, descendantSearch, childSearch, join, noItem}
+use Rattle.plainruns.specs.Calls.Call.{save, delete, look, round, openSeat, closeSeat, askPart, askPartNo, noBatch}
 use Rattle.plainruns.specs.Calls.Run.{none, then}
 use Rattle.plainruns.specs.Calls.Agree.{ended, without, together}
 use Rattle.plainruns.proofs.Good.{Good, good-set, good-next, good-opened, good-reached, share-given, seat-fits, round-answer, round-leaves}
@@ -126,6 +126,7 @@ module _ (so si : List ℕ) (A : ℕ) (s s′ : State) (g : Good so si s) (g′ 
   look-same a (join x y k out) n =
       cond-same (eqb (joinNo a) 0) _ _ (refuses (joinNo a) out)
       (λ e. ap (joins out) (joined-same A (setOf x s) (setOf y s) (setOf x s′) (setOf y s′) (r .sets-apart x) (r .sets-apart y) a k n))
+  look-same a (noItem w k) n = refl
 
   part-words : (i n : ℕ) → partNo (s .desk) (s .buffer) i n ≡ 0 → Same A s (askPart i n) (handsBack (cut i n (s .buffer))) (handsBack (cut i n (s′ .buffer)))
   part-words i n e =
@@ -186,6 +187,7 @@ module _ (so si : List ℕ) (A : ℕ) (s s′ : State) (g : Good so si s) (g′ 
       (cut i n (s .buffer)) [] (cut i n (s′ .buffer)) [] (ap (λ z. eqb z 0) (part-same so si A s s′ g g′ r i n)) (λ e e′. part-words i n (eq-of _ _ e))
       (same-refl A s (askPart i n) (handsBack []) (handsBack []) refl)
   same-answer (askPartNo i n) h = same-refl A s _ _ _ (ap says (part-same so si A s s′ g g′ r i n))
+  same-answer (noBatch w ws places) h = same-refl A s _ _ _ refl
 
 -- THE TWO RUNS
 rel-opened : (A : ℕ) (so si : List ℕ) (s s′ : State) → Opened so si s → Opened so si s′ → Rel A s s′

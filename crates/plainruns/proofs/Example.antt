@@ -1,4 +1,4 @@
--- Document 01's examples as histories, by computing them: refusals where account 0 has a share of 4, and a seat of limit 3 that gets eight pairs in turns.
+-- Document 01's examples as histories, by computing them: refusals where account 0 has a share of 4, and a seat of limit 3 that gets eight pairs in turns. And what C-14 adds to histories.
 -- Assumes nothing.
 use Prim.Native.Nat.{ℕ}
 use mathlib.Core.Path.{_≡_, refl}
@@ -10,12 +10,14 @@ use Rattle.regions.specs.declared.Region.{Region}
 use Rattle.regions.specs.declared.Kind.the-variants.{Ancestor}
 use Rattle.regions.specs.Positions.{wellBound, wellFormed, endsBefore, contains, nested, crosses, misleveled, contradicts, spans, holds}
 use Rattle.regions.specs.Sets.{emptySet, of, isAt, startsBefore, startsBehind, saved, deleted}
-use Rattle.regions.specs.Numbers.{DONE, REGION, ACCOUNT, HELD, CROSS, LEVEL, SHARE, ABSENT}
+use Rattle.regions.specs.Numbers.{DONE, REGION, ACCOUNT, HELD, CROSS, FORM, ROOM, LEVEL, SHARE, ABSENT}
 use Rattle.regions.specs.Calls.{foreign, openSetNo, saveNo, deleteNo, choiceOf, levelFits, pairsWith, pairsOf, joined}
+use Rattle.regions.specs.Items.{batchNo}
 use Rattle.regions.specs.Desk.{later, isPast, markBehind, markFits, stateFits, deskFits, bufferFits, stateOpen, stateLimit, openSeatNo, stateHanded, stateTurned, poured, roundNo, partNo, part, closed}
-use Rattle.plainruns.specs.Calls.{State, Call, Shown, answer, next, Opened}
+use Rattle.plainruns.specs.Calls.{State, Call, Shown, looked, answer, next, Opened}
 use Rattle.plainruns.specs.Calls.Which.{outer, inner}
-use Rattle.plainruns.specs.Calls.Call.{save, delete, round, openSeat, askPart}
+use Rattle.plainruns.specs.Calls.Look.{noItem}
+use Rattle.plainruns.specs.Calls.Call.{save, delete, look, round, openSeat, askPart, noBatch}
 use Rattle.plainruns.proofs.Demand.{after}
 
 abbrev region : ℕ → ℕ → ℕ → ℕ → Region
@@ -79,6 +81,11 @@ refusals : map (λ (x : Shown). x .number)
     ≡ DONE ∷ DONE ∷ DONE ∷ DONE ∷ HELD ∷ CROSS ∷ CROSS ∷ LEVEL ∷ REGION ∷ REGION ∷ SHARE ∷ ACCOUNT ∷ DONE ∷ DONE ∷ ABSENT ∷ []
 unfolding answers answer next filter some firstNo wellBound wellFormed endsBefore contains nested crosses misleveled contradicts of isAt startsBefore startsBehind saved deleted foreign saveNo deleteNo
 refusals = refl
+
+-- an item that is neither save nor delete; batches of seven words, and of two items with one place, which stays
+neither : map {B = ℕ × List ℕ} (λ (x : Shown). (x .number, x .words)) (answers (look 0 (noItem outer 2) ∷ noBatch outer (replicate 7 0) [] ∷ noBatch outer (replicate 12 0) (9 ∷ []) ∷ []) start) ≡ (FORM, []) ∷ (FORM, []) ∷ (ROOM, 9 ∷ []) ∷ []
+unfolding answers looked answer next firstNo batchNo
+neither = refl
 
 -- eight pairs, and a seat at limit 3
 abbrev seated : List Call

@@ -1,7 +1,7 @@
 -- What every state has that a run reaches: both sets sound, of the shares given, with regions of the sixteen accounts only; a desk in its ranges; 1,024 words.
 -- Hence no account ever holds more than its share, and no call is answered IMAGE or DESK.
 -- Assumes nothing.
-use Prim.Native.Nat.{ℕ, zero, suc, _≤_}
+use Prim.Native.Nat.{ℕ, zero, suc, _/_, _%_, _≤_}
 use mathlib.Core.Path.{_≡_, refl, ap, _∙_}
 use mathlib.Core.Bool.{Bool, true, false, not, _||_}
 use mathlib.Core.List.{List, [], _∷_}
@@ -16,8 +16,9 @@ use Rattle.regions.specs.declared.Seat.{Seat}
 use Rattle.regions.specs.Positions.{account, wellBound, wellFormed}
 use Rattle.regions.specs.Limits.{mostARound}
 use Rattle.regions.specs.Sets.{Set, emptySet, heldBy, shareOf, heldAt, crossed, contradicted, saved, deleted}
-use Rattle.regions.specs.Numbers.{REGION, ACCOUNT, HELD, CROSS, LEVEL, SHARE, ABSENT, SEAT, LIMIT, DESK, unless}
+use Rattle.regions.specs.Numbers.{REGION, ACCOUNT, HELD, CROSS, LEVEL, SHARE, ABSENT, SEAT, LIMIT, DESK, FORM, ROOM, unless}
 use Rattle.regions.specs.Calls.{foreign, openSetNo, saveNo, deleteNo, pointNo, boundsNo, joinNo, ancestors, parent, descendants, children, joined}
+use Rattle.regions.specs.Items.{batchNo}
 use Rattle.regions.specs.Desk.{seatFits, deskFits, bufferFits, isOpen, limitOf, closed, opened, seatAt, openSeatNo, closeSeatNo, handedWords, roundNo, partNo}
 use Rattle.words.proofs.Listed.{first-no}
 use Rattle.regions.proofs.Done.{DeskOk, fits-desk, fits-buffer, open-set-done, save-done, open-seat-done, done-round}
@@ -26,8 +27,8 @@ use Rattle.regions.proofs.Rising.{empty-sound, saved-sound, deleted-sound, save
 use Rattle.regions.proofs.Seats.{opened-fits, closed-fits, seats-each, each-seats, desk-turned, poured-long}
 use Rattle.plainruns.specs.Calls.{Which, State, setOf, withSet, withDesk, Look, Call, Shown, Answer, says, refuses, lists, pages, finds, joins, dealt, looked, answer, noted, behindRound, next, Step, Done, Run, Opened, shareGiven, sharesGiven, Fair}
 use Rattle.plainruns.specs.Calls.Which.{outer, inner}
-use Rattle.plainruns.specs.Calls.Look.{ancestorSearch, parentSearch, descendantSearch, childSearch, join}
-use Rattle.plainruns.specs.Calls.Call.{save, delete, look, round, openSeat, closeSeat, askPart, askPartNo}
+use Rattle.plainruns.specs.Calls.Look.{ancestorSearch, parentSearch, descendantSearch, childSearch, join, noItem}
+use Rattle.plainruns.specs.Calls.Call.{save, delete, look, round, openSeat, closeSeat, askPart, askPartNo, noBatch}
 use Rattle.plainruns.specs.Calls.Run.{none, then}
 
 -- LISTS
@@ -117,6 +118,7 @@ module _ (so si : List ℕ) where
       either (Good so si) (eqb (closeSeatNo (s .desk) i) 0) _ s (λ e. good-desk _ _ _ s (seat-set (s .desk) i closed closed-fits (g .desk-good)) (g .words) (g .notes) g) (λ e. g)
   good-next (askPart i n) s g = g
   good-next (askPartNo i n) s g = g
+  good-next (noBatch w ws places) s g = g
 
   empty-good : (shares : List ℕ) (S : Set) → S ≡ emptySet shares → openSetNo shares ≡ 0 → GoodSet shares S
   empty-good shares S e d = rw e (record { given = refl; sound = empty-sound shares (open-set-done shares d); ranged = tt })
@@ -185,6 +187,10 @@ fair-join : (a : ℕ) → Fair (joinNo a)
 unfolding joinNo
 fair-join a = fair-first ((ltb 15 a, ACCOUNT) ∷ []) (omega arith)
 
+fair-batch : (words places : ℕ) → Fair (batchNo words places)
+unfolding batchNo
+fair-batch words places = fair-first ((not (eqb (words % 6) 0), FORM) ∷ (ltb places (words / 6), ROOM) ∷ []) (omega arith)
+
 fair-look : (a : ℕ) (o : Look) (s : State) → Fair (looked a o s .number)
 unfolding looked
 fair-look a (ancestorSearch w p ch out) s = fair-unless (pointNo a p) (lists out (ancestors ch p (setOf w s))) (refuses (pointNo a p) out) (fair-point a p) refl refl
@@ -192,6 +198,7 @@ fair-look a (parentSearch w p l) s = fair-unless (pointNo a p) (finds (parent p 
 fair-look a (descendantSearch w b e f out) s = fair-unless (boundsNo a b e) (pages out (descendants b e f (setOf w s))) (refuses (boundsNo a b e) out) (fair-bounds a b e) refl refl
 fair-look a (childSearch w b e l f out) s = fair-unless (boundsNo a b e) (pages out (children b e l f (setOf w s))) (refuses (boundsNo a b e) out) (fair-bounds a b e) refl refl
 fair-look a (join x y k out) s = fair-unless (joinNo a) (joins out (joined (setOf x s) (setOf y s) a k)) (refuses (joinNo a) out) (fair-join a) refl refl
+fair-look a (noItem w k) s = omega arith
 
 pub fair : (so si : List ℕ) (c : Call) (s : State) → Good so si s → Fair (answer c s .number)
 unfolding answer saveNo deleteNo openSeatNo closeSeatNo partNo
@@ -216,6 +223,7 @@ fair so si (askPart i n) s g = omega arith
 fair so si (askPartNo i n) s g =
     rw (desk-fits so si s g, buffer-fits so si s g, first-no false DESK _ refl)
     (fair-first ((ltb 7 i || not (isOpen (seatAt (s .desk) i)), SEAT) ∷ (ltb (limitOf (seatAt (s .desk) i)) n, LIMIT) ∷ []) (omega arith))
+fair so si (noBatch w ws places) s g = fair-batch (length ws) (length places)
 
 pub never : (so si : List ℕ) {s₀ s t : State} {ds : List Done} (c : Call) {x : Answer} → Opened so si s₀ → Run s₀ ds s → Step s c x t → Fair (x .shown .number)
 never so si {s = s} c o r st = rw (st .answers) (fair so si c s (good-reached so si o r))

@@ -17,9 +17,10 @@ use Rattle.regions.specs.declared.State.{State as SeatState}
 use Rattle.regions.specs.declared.State.the-variants.{Closed, Open as Serving}
 use Rattle.regions.specs.declared.Seat.{Seat}
 use Rattle.regions.specs.Sets.{Set, emptySet, saved, deleted}
-use Rattle.regions.specs.Numbers.{DONE, IMAGE, DESK, unless}
+use Rattle.regions.specs.Numbers.{DONE, IMAGE, DESK, FORM, unless}
 use Rattle.regions.specs.Limits.{regionWidth, pairWidth, accountCount, bufferWords, seatWidth}
 use Rattle.regions.specs.Calls.{written, countWritten, moreRemain, regionWords, openSetNo, saveNo, deleteNo, pointNo, ancestors, parent, boundsNo, descendants, children, Pair, joined, joinNo, pairWords}
+use Rattle.regions.specs.Items.{batchNo}
 use Rattle.regions.specs.Desk.{past, markBehind, closed, openAt, opened, seatAt, openSeatNo, closeSeatNo, turned, handedWords, seatWord, poured, served, counts, roundNo, partNo, part}
 
 -- WHAT THE CALLER HAS: two sets, the desk, one round buffer. Every call names a set by its place, so there is no third one; a call that
@@ -47,15 +48,18 @@ withSet inner S s = record { outerSet = s .outerSet; innerSet = S; desk = s .des
 abbrev pub withDesk : List Seat → List ℕ → List Bool → State → State
 withDesk desk buffer wrote s = record { outerSet = s .outerSet; innerSet = s .innerSet; desk = desk; buffer = buffer; wrote = wrote }
 
--- THE CALLS. The searches, the join among them; the words lent for an answer come as they are before the call. The account stands in the call
+-- THE CALLS. What an account asks without changing anything: the searches, the join among them, and an item of a batch that is neither a save nor a delete, with the word that should say which.
+-- The words lent for an answer come as they are before the call. The account stands in the call
 pub data Look : Type 0 where
   ancestorSearch : Which → ℕ → Choice → List ℕ → Look
   parentSearch : Which → ℕ → ℕ → Look
   descendantSearch : Which → ℕ → ℕ → ℕ → List ℕ → Look
   childSearch : Which → ℕ → ℕ → ℕ → ℕ → List ℕ → Look
   join : Which → Which → Kind → List ℕ → Look
+  noItem : Which → ℕ → Look
 
--- all calls but an opening of a set or of the desk. `askPart` is answered by words, `askPartNo` by the number that belongs to them
+-- all calls but an opening of a set or of the desk. `askPart` is answered by words, `askPartNo` by the number that belongs to them. A batch (change request C-14) stands here as its items, each the
+-- call of its account; only where it is refused as a whole it is a call itself, `noBatch`, of no account: the words of its items, and the places for answers as they are before it
 pub data Call : Type 0 where
   save : Which → ℕ → Region → Call
   delete : Which → ℕ → ℕ → Call
@@ -65,6 +69,7 @@ pub data Call : Type 0 where
   closeSeat : ℕ → Call
   askPart : ℕ → ℕ → Call
   askPartNo : ℕ → ℕ → Call
+  noBatch : Which → List ℕ → List ℕ → Call
 
 -- WHAT A CALL ANSWERS, but for its step count. One record for all calls: what a call does not answer is 0, false or empty.
 -- `found` is the parent search's region or none; `words` are the lent words afterwards, or a part; `counts` and `hands` are a round's: how many
@@ -130,6 +135,7 @@ looked a (parentSearch w p l) s = unless (pointNo a p) (finds (parent p l (setOf
 looked a (descendantSearch w b e after out) s = unless (boundsNo a b e) (pages out (descendants b e after (setOf w s))) (refuses (boundsNo a b e) out)
 looked a (childSearch w b e l after out) s = unless (boundsNo a b e) (pages out (children b e l after (setOf w s))) (refuses (boundsNo a b e) out)
 looked a (join x y k out) s = unless (joinNo a) (joins out (joined (setOf x s) (setOf y s) a k)) (refuses (joinNo a) out)
+looked a (noItem w k) s = says FORM
 
 -- a round over two sets
 abbrev pub dealt : Set → Set → List Seat → Shown
@@ -144,6 +150,7 @@ answer (openSeat i a k l) s = says (openSeatNo (s .desk) i a l)
 answer (closeSeat i) s = says (closeSeatNo (s .desk) i)
 answer (askPart i n) s = handsBack (part (s .desk) (s .buffer) i n)
 answer (askPartNo i n) s = says (partNo (s .desk) (s .buffer) i n)
+answer (noBatch w ws places) s = refuses (batchNo (length ws) (length places)) places
 
 -- WHAT A CALL LEAVES: a refused call and a search, all as it was
 abbrev pub isWritten : ℕ → Bool
@@ -176,6 +183,7 @@ next (openSeat i a k l) s = unless (openSeatNo (s .desk) i a l) (behindOpen i (o
 next (closeSeat i) s = unless (closeSeatNo (s .desk) i) (behindClose i s) s
 next (askPart i n) s = s
 next (askPartNo i n) s = s
+next (noBatch w ws places) s = s
 
 -- RUNS. One call with its answer, from a state to the next: nobody else writes in between
 pub record Step (s : State) (c : Call) (a : Answer) (t : State) : Type 0 where
@@ -212,7 +220,7 @@ abbrev pub shareGiven : List ℕ → List ℕ → Which → ℕ → ℕ
 shareGiven so si outer a = getD so a 0
 shareGiven so si inner a = getD si a 0
 
--- LEAVING OUT AN ACCOUNT: its saves, deletes and searches, by the account that the call names, refused or not
+-- LEAVING OUT AN ACCOUNT: its saves, deletes, searches and items, by the account that the call names, refused or not
 abbrev pub byAccount : ℕ → Call → Bool
 byAccount A (save w a r) = eqb a A
 byAccount A (delete w a p) = eqb a A
@@ -222,6 +230,7 @@ byAccount A (openSeat i a k l) = false
 byAccount A (closeSeat i) = false
 byAccount A (askPart i n) = false
 byAccount A (askPartNo i n) = false
+byAccount A (noBatch w ws places) = false
 
 abbrev pub leftOut : ℕ → List Call → List Call
 leftOut A cs = filter (λ c. not (byAccount A c)) cs
@@ -245,6 +254,7 @@ excepted A s (openSeat i a j l) k = false
 excepted A s (closeSeat i) k = false
 excepted A s (askPart i n) k = reads A (seatAt (s .desk) i) || not (getD (s .wrote) (seatWord i + k) false)
 excepted A s (askPartNo i n) k = false
+excepted A s (noBatch w ws places) k = false
 
 -- TWO ANSWERS TO ONE CALL THAT AGREE, the first given in state s. Free are the step count (it is not shown), the count and words of a seat that reads the
 -- account, and the words excepted; and even of these there are equally many. All else is the same

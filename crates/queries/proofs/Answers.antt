@@ -5,7 +5,6 @@ use mathlib.Core.Path.{_≡_, refl, sym, ap, _∙_}
 use mathlib.Core.Bool.{Bool, true, false, _&&_}
 use mathlib.Core.List.{List, [], _∷_}
 use lib.ListN.{length}
-use native.Mathlib.Omega.{arith}
 use Rattle.words.specs.Lists.{firstNo}
 use Rattle.words.proofs.Tests.{eq-no, lt-yes, lt-no}
 use Rattle.regions.specs.Numbers.{imageFirst}
@@ -80,10 +79,6 @@ bounds-foreign a s e h f = rw (h, f)
 pub bounds-own : (a s e : ℕ) → wellBound s e ≡ true → foreign a s ≡ false → 0 ≡ boundsNo a s e
 unfolding boundsNo firstNo
 bounds-own a s e h f = rw (h, f)
-
-pub image-right : (ok : Bool) (n : ℕ) → 0 ≡ imageFirst ok n → ok ≡ true
-image-right true n e = refl
-image-right false n e = absurd (let z : _≡_ {A = ℕ} 0 1 = e in omega arith)
 
 pub lists-refused : (w : List ℕ) (a s e : ℕ) (rs : List Region) (out : List ℕ) (n : ℕ) → (n ≡ 0 → ⊥) → n ≡ imageFirst (valid w) (boundsNo a s e) → Lists w a s e rs out n 0 false out
 lists-refused w a s e rs out n h f = record { number-is = f; refused = λ z. (refl, refl, refl); done = λ z. absurd (h z) }

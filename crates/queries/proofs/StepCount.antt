@@ -12,7 +12,7 @@ use Rattle.regions.specs.declared.Choice.{Choice}
 use Rattle.image.specs.Valid.{valid}
 use Rattle.search.proofs.Right.{steps-bound}
 use Rattle.queries.specs.Searches.{FindsAncestors}
-use Rattle.queries.proofs.Answers.{image-right}
+use Rattle.regions.proofs.Numbers.{image-right}
 
 pub steps-at-most : (w : List ℕ) → ((i : ℕ) → getD w i 0 < 4294967296) → (a p : ℕ) (ch : Choice) → p < 4294967296 → (out out′ : List ℕ) (n total made : ℕ)
     → FindsAncestors w a p ch out n total made out′ → made ≤ 4 + 2 * total

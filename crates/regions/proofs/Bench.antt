@@ -1,9 +1,9 @@
--- Document 01's P1 to P12, C-17's choice, C-15's levels and C-13's limits: the definitions give each answer, by computing it.
+-- Document 01's P1 to P12, C-17's choice, C-15's levels, C-13's limits and C-14's batch: the definitions give each answer, by computing it.
 -- Assumes nothing.
 use Prim.Native.Nat.{ℕ}
 use mathlib.Core.Path.{_≡_, refl}
 use mathlib.Core.Bool.{true, false}
-use mathlib.Core.List.{[], _∷_, map}
+use mathlib.Core.List.{List, [], _∷_, map}
 use lib.ListN.{replicate}
 use Rattle.words.specs.Lists.{filter, some, all, firstNo}
 use Rattle.regions.specs.declared.Region.{Region}
@@ -11,9 +11,10 @@ use Rattle.regions.specs.declared.Choice.the-variants.{WithSelf}
 use Rattle.regions.specs.declared.Kind.the-variants.{Ancestor}
 use Rattle.regions.specs.declared.Mark.the-variants.{Fresh}
 use Rattle.regions.specs.Positions.{wellBound, wellFormed, endsBefore, contains, nested, crosses, misleveled, contradicts, spans, holds, inside, isAbove}
-use Rattle.regions.specs.Sets.{of, isAt, startsBehind}
-use Rattle.regions.specs.Numbers.{DONE, LIMIT, LEVEL}
-use Rattle.regions.specs.Calls.{foreign, saveNo, pointNo, ancestors, parent, boundsNo}
+use Rattle.regions.specs.Sets.{Set, of, isAt, startsBefore, startsBehind, saved, deleted}
+use Rattle.regions.specs.Numbers.{DONE, REGION, ACCOUNT, SHARE, ABSENT, LIMIT, FORM, ROOM, LEVEL}
+use Rattle.regions.specs.Calls.{foreign, saveNo, deleteNo, pointNo, ancestors, parent, boundsNo}
+use Rattle.regions.specs.Items.{item, itemRegion, itemOf, firstItems, itemsOf, batchNo, itemNo, behind, numbersOf, behindAll}
 use Rattle.regions.specs.Desk.{markFits, stateFits, seatFits, deskFits, stateOpen, closed, openAt, limitAsked, openSeatNo}
 use Rattle.regions.specs.Bench.{region, benchSet, ask, questions, answers}
 
@@ -49,3 +50,37 @@ limits-asked = refl
 pub limits-kept : map (λ (l : ℕ). seatFits (openAt (record { account = 0; kind = Ancestor; limit = l; mark = Fresh }))) (0 ∷ 8 ∷ 9 ∷ 32 ∷ 33 ∷ []) ≡ false ∷ true ∷ true ∷ true ∷ false ∷ []
 unfolding markFits stateFits
 limits-kept = refl
+
+-- A BATCH. Account 0 holds (10, 90) and has a share of 2. A save fills it, the next finds it full, a word that says neither is told FORM; a delete frees a place for a later save of the
+-- same batch, however little the rest of its item is a region; then nothing starts at 20, an item's account is looked at before that, a save's region first of all
+abbrev batchSet : Set
+batchSet =
+    record {
+      shares = 2 ∷ 0 ∷ 0 ∷ 0 ∷ 0 ∷ 0 ∷ 0 ∷ 0 ∷ 0 ∷ 0 ∷ 0 ∷ 0 ∷ 0 ∷ 0 ∷ 0 ∷ 0 ∷ [];
+      regions = region 10 90 1 101 ∷ [];
+    }
+
+abbrev batchWords : List ℕ
+batchWords =
+    0 ∷ 0 ∷ 20 ∷ 50 ∷ 2 ∷ 102 ∷
+    0 ∷ 0 ∷ 60 ∷ 80 ∷ 2 ∷ 103 ∷
+    2 ∷ 0 ∷ 60 ∷ 80 ∷ 2 ∷ 103 ∷
+    1 ∷ 0 ∷ 20 ∷ 7 ∷ 0 ∷ 0 ∷
+    0 ∷ 0 ∷ 60 ∷ 80 ∷ 2 ∷ 103 ∷
+    1 ∷ 0 ∷ 20 ∷ 50 ∷ 2 ∷ 102 ∷
+    1 ∷ 16 ∷ 20 ∷ 50 ∷ 2 ∷ 102 ∷
+    0 ∷ 16 ∷ 50 ∷ 20 ∷ 2 ∷ 102 ∷
+    []
+
+pub batch-told : numbersOf (itemsOf batchWords) batchSet ≡ DONE ∷ SHARE ∷ FORM ∷ DONE ∷ DONE ∷ ABSENT ∷ ACCOUNT ∷ REGION ∷ []
+unfolding filter some firstNo wellBound wellFormed endsBefore contains nested crosses misleveled contradicts of isAt startsBefore startsBehind foreign saveNo deleteNo saved deleted item itemRegion itemOf firstItems itemNo behind numbersOf
+batch-told = refl
+
+pub batch-left : map (λ (r : Region). r .reference) (behindAll (itemsOf batchWords) batchSet .regions) ≡ 101 ∷ 103 ∷ []
+unfolding filter some firstNo wellBound wellFormed endsBefore contains nested crosses misleveled contradicts of isAt startsBefore startsBehind foreign saveNo deleteNo saved deleted item itemRegion itemOf firstItems behind behindAll
+batch-left = refl
+
+-- its own number, by words and places: whole items first, then a place for each; none at all are done
+pub batch-numbers : map (λ (p : ℕ × ℕ). batchNo (p .0) (p .1)) ((0, 0) ∷ (6, 0) ∷ (7, 0) ∷ (11, 9) ∷ (12, 1) ∷ (12, 2) ∷ (12, 3) ∷ []) ≡ DONE ∷ ROOM ∷ FORM ∷ FORM ∷ ROOM ∷ DONE ∷ DONE ∷ []
+unfolding firstNo batchNo
+batch-numbers = refl

@@ -1,6 +1,6 @@
 -- What a call's number 0 says: every one of its tests failed. Each law with its converse, so that 0 is answered exactly there.
 -- Assumes nothing.
-use Prim.Native.Nat.{ℕ, _<_, _≤_}
+use Prim.Native.Nat.{ℕ, _/_, _%_, _<_, _≤_}
 use mathlib.Core.Path.{_≡_, refl, ap}
 use mathlib.Core.Bool.{Bool, true, false, not, _&&_, _||_, true≢false}
 use mathlib.Core.List.{List, []}
@@ -15,6 +15,7 @@ use Rattle.regions.specs.Positions.{account, wellBound, wellFormed}
 use Rattle.regions.specs.Limits.{mostARound}
 use Rattle.regions.specs.Sets.{Set, heldAt, crossed, contradicted, heldBy, shareOf}
 use Rattle.regions.specs.Calls.{foreign, openSetNo, saveNo, deleteNo, pointNo, boundsNo, joinNo}
+use Rattle.regions.specs.Items.{batchNo}
 use Rattle.regions.specs.Desk.{deskFits, bufferFits, seatFits, seatAt, isOpen, limitOf, openDeskNo, openSeatNo, closeSeatNo, roundNo, partNo}
 use Rattle.regions.proofs.Means.{foreign-says}
 
@@ -78,6 +79,22 @@ delete-done S a s e =
 pub done-delete : (S : Set) (a s : ℕ) → MayDelete S a s → deleteNo S a s ≡ 0
 unfolding deleteNo firstNo
 done-delete S a s m = rw (of-own a s (m .own), m .held)
+
+-- a batch, by the words of its items and the places for its answers
+pub record MayBatch (words places : ℕ) : Type 0 where
+  pub whole : words % 6 ≡ 0
+  pub room : words / 6 ≤ places
+
+pub batch-done : (words places : ℕ) → batchNo words places ≡ 0 → MayBatch words places
+unfolding batchNo
+batch-done words places e =
+    let u = first-0 (not (eqb (words % 6) 0)) 11 _ e in
+    let v = first-0 (ltb places (words / 6)) 12 _ (u .1) in
+    record { whole = eq-of _ _ (not-false _ (u .0)); room = nlt-of _ _ (v .0) }
+
+pub done-batch : (words places : ℕ) → MayBatch words places → batchNo words places ≡ 0
+unfolding batchNo firstNo
+done-batch words places m = rw (eq-yes (words % 6) 0 (m .whole), lt-no places (words / 6) (m .room))
 
 -- SEARCHES AND THE JOIN
 pub point-done : (a p : ℕ) → pointNo a p ≡ 0 → Own a p

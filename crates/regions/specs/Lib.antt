@@ -3,6 +3,7 @@ pub mod Positions
 pub mod Sets
 pub mod Numbers
 pub mod Calls
+pub mod Items
 pub mod Desk
 pub mod Sound
 pub mod Bench

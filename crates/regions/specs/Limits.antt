@@ -43,12 +43,16 @@ houseLimit = 8
 abbrev pub mostARound : ℕ
 mostARound = 32
 
--- a region and a pair in words; a seat's words of the round buffer, and all of its words
+-- a region, a pair and an item of a batch in words; a seat's words of the round buffer, and all of its words
 abbrev pub regionWidth : ℕ
 regionWidth = 4
 
 abbrev pub pairWidth : ℕ
 pairWidth = 4
+
+-- (change request C-14)
+abbrev pub itemWidth : ℕ
+itemWidth = 6
 
 abbrev pub seatWidth : ℕ
 seatWidth = 128

@@ -43,6 +43,10 @@ DESK = 11
 abbrev pub FORM : ℕ
 FORM = 12
 
+-- (change request C-14)
+abbrev pub ROOM : ℕ
+ROOM = 13
+
 -- (change request C-15)
 abbrev pub LEVEL : ℕ
 LEVEL = 14

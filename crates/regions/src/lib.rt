@@ -34,6 +34,8 @@ pub const DESK: u32 = 11;
 
 pub const FORM: u32 = 12;
 
+pub const ROOM: u32 = 13;
+
 pub const LEVEL: u32 = 14;
 
 // THE NUMBERS OF THE HOUSE, as specs/Limits has them. Accounts:
@@ -64,10 +66,12 @@ pub const HOUSE_LIMIT: u32 = 8;
 
 pub const MOST_A_ROUND: u32 = 32;
 
-// and what things take in words: a region, a pair, a seat's part of the round buffer, all of it.
+// and what things take in words: a region, a pair, an item of a batch, a seat's part of the round buffer, all of it.
 pub const REGION_WIDTH: usize = 4;
 
 pub const PAIR_WIDTH: usize = 4;
+
+pub const ITEM_WIDTH: usize = 6;
 
 pub const SEAT_WIDTH: usize = 128;
 

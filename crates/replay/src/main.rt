@@ -53,18 +53,25 @@ fn with_size(store: Store, set: u32, n: u32) -> Store {
 }
 
 // A call on one image: its first words are lent.
-fn on_one(img: &mut [u32], size: usize, c: Command, answers: &mut [u32]) {
+fn on_one(img: &mut [u32], size: usize, c: Command, given: &[u32], answers: &mut [u32]) {
     let lent = sets::least(size, img.len());
     let numbers = c.numbers;
-    sets::call(&mut img[0..lent], c.what, numbers, answers);
+    sets::call(&mut img[0..lent], c.what, numbers, given, answers);
 }
 
-fn on_a_set(outer: &mut [u32], inner: &mut [u32], store: Store, c: Command, answers: &mut [u32]) {
+fn on_a_set(
+    outer: &mut [u32],
+    inner: &mut [u32],
+    given: &[u32],
+    store: Store,
+    c: Command,
+    answers: &mut [u32],
+) {
     let numbers = c.numbers;
     if numbers[0] == 0 {
-        on_one(outer, store.outer, c, answers);
+        on_one(outer, store.outer, c, given, answers);
     } else {
-        on_one(inner, store.inner, c, answers);
+        on_one(inner, store.inner, c, given, answers);
     }
 }
 
@@ -110,8 +117,18 @@ fn on_desk(buffer: &[u32], store: Store, c: Command) -> Store {
 }
 
 // A command on the store itself.
-fn on_store(outer: &mut [u32], inner: &mut [u32], store: Store, c: Command) -> Store {
+fn on_store(
+    outer: &mut [u32],
+    inner: &mut [u32],
+    given: &mut [u32],
+    store: Store,
+    c: Command,
+) -> Store {
     let numbers = c.numbers;
+    if c.what == script::GIVE {
+        sets::put(given, numbers[0], numbers[1]);
+        return store;
+    }
     if c.what == script::WORD {
         sets::put_word(outer, inner, numbers);
         return store;
@@ -124,12 +141,13 @@ fn play(
     outer: &mut [u32],
     inner: &mut [u32],
     buffer: &mut [u32],
+    given: &mut [u32],
     answers: &mut [u32],
     store: Store,
     c: Command,
 ) -> Store {
     if c.group == script::IMAGE {
-        on_a_set(outer, inner, store, c, answers);
+        on_a_set(outer, inner, given, store, c, answers);
         return store;
     }
     if c.group == script::PAIR {
@@ -140,7 +158,7 @@ fn play(
     if c.group == script::SEATS {
         return on_desk(buffer, store, c);
     }
-    on_store(outer, inner, store, c)
+    on_store(outer, inner, given, store, c)
 }
 
 // The line of a script at which it ends.
@@ -156,6 +174,7 @@ fn play_all(text: &[u8])
     let mut outer = [4294967295u32; 12300];
     let mut inner = [4294967295u32; 12300];
     let mut buffer = [0u32; regions::BUFFER_WORDS];
+    let mut given = [0u32; 4096];
     let mut answers = [0u32; 4096];
     let mut store = fresh();
     let mut line: u32 = 0;
@@ -172,7 +191,15 @@ fn play_all(text: &[u8])
             no_command(line);
             return;
         }
-        let left = play(&mut outer, &mut inner, &mut buffer, &mut answers, store, c);
+        let left = play(
+            &mut outer,
+            &mut inner,
+            &mut buffer,
+            &mut given,
+            &mut answers,
+            store,
+            c,
+        );
         store = left;
         at = end + 1;
     }

@@ -103,8 +103,41 @@ fn search(img: &[u32], what: usize, n: Numbers, answers: &mut [u32]) {
     children(img, n, answers);
 }
 
+// What stands in every place before a batch.
+fn fill(places: &mut [u32]) {
+    let mut i: usize = 0;
+    while i < places.len() {
+        places[i] = 4294967295;
+        i += 1;
+    }
+}
+
+// All places of a batch on one line; no line where there is none.
+fn told_places(places: &[u32]) {
+    let mut at: usize = 0;
+    while at < places.len() {
+        if at != 0 {
+            console::text(b" ");
+        }
+        console::number(words::wide(places[at]));
+        at += 1;
+    }
+    if at != 0 {
+        console::text(b"\n");
+    }
+}
+
+// The first words of the given buffer as the items of a batch.
+fn batch(img: &mut [u32], n: Numbers, given: &[u32], answers: &mut [u32]) {
+    let items = least(words::wide(n[1]), given.len());
+    let room = least(words::wide(n[2]), answers.len());
+    fill(&mut answers[0..room]);
+    console::line(&[index::batch(img, &given[0..items], &mut answers[0..room])]);
+    told_places(&answers[0..room]);
+}
+
 // A call on an image.
-pub fn call(img: &mut [u32], what: usize, n: Numbers, answers: &mut [u32]) {
+pub fn call(img: &mut [u32], what: usize, n: Numbers, given: &[u32], answers: &mut [u32]) {
     if what == script::OPEN {
         open(img, n);
         return;
@@ -115,6 +148,10 @@ pub fn call(img: &mut [u32], what: usize, n: Numbers, answers: &mut [u32]) {
     }
     if what == script::DELETE {
         console::line(&[index::delete(img, n[1], n[2])]);
+        return;
+    }
+    if what == script::BATCH {
+        batch(img, n, given, answers);
         return;
     }
     search(img, what, n, answers);
@@ -129,17 +166,19 @@ pub fn join(outer: &[u32], inner: &[u32], n: Numbers, answers: &mut [u32]) {
     console::rows(&answers[0..room], r.total);
 }
 
-fn put(img: &mut [u32], at: usize, value: u32) {
-    if at < img.len() {
-        img[at] = value;
+// Writes a word, where there is one.
+pub fn put(to: &mut [u32], at: u32, value: u32) {
+    let i = words::wide(at);
+    if i < to.len() {
+        to[i] = value;
     }
 }
 
 // Writes a word of an image directly.
 pub fn put_word(outer: &mut [u32], inner: &mut [u32], n: Numbers) {
     if n[0] == 0 {
-        put(outer, words::wide(n[1]), n[2]);
+        put(outer, n[1], n[2]);
     } else {
-        put(inner, words::wide(n[1]), n[2]);
+        put(inner, n[1], n[2]);
     }
 }

@@ -19,9 +19,9 @@ use Rattle.plainruns.specs.Calls.Which.{outer}
 use Rattle.plainruns.specs.Held.{heldFrom, Stands}
 use Rattle.runs.specs.Calls.{Lent, Runs, Ready}
 use Rattle.runs.specs.Calls.Does.{saves, deletes}
-use Rattle.runs.specs.Calls.Runs.{stop, go}
+use Rattle.runs.specs.Calls.Runs.{stop, go, batch}
 use Rattle.runs.specs.Alone.{OpenedAlone, Alone}
-use Rattle.runs.specs.Alone.Alone.{rests, saving, deleting}
+use Rattle.runs.specs.Alone.Alone.{rests, saving, deleting, batching}
 use Rattle.runs.proofs.Demand.{demand-valid, demand-held, demand-at, demand-shares, demand-sound}
 
 -- it is a run over two sets of which the other is left alone, beside a desk of closed seats
@@ -50,6 +50,7 @@ pub alone-runs : {w v : List ℕ} (other : List ℕ) {ds : List Done} → Alone 
 alone-runs other rests = stop
 alone-runs other (saving s t) = go (saves outer s) (alone-runs other t)
 alone-runs other (deleting s t) = go (deletes outer s) (alone-runs other t)
+alone-runs other (batching b t) = batch outer b (alone-runs other t)
 
 module _ (shares : List ℕ) {w v : List ℕ} {ds : List Done} (o : OpenedAlone shares w) (t : Alone w ds v) where
   pub alone-valid : valid v ≡ true

@@ -31,7 +31,8 @@ use Rattle.plainruns.proofs.Demand.{theorem-a, theorem-b, theorem-b-rest, theor
 use Rattle.plainruns.proofs.Held.{held-at, theorem-held, theorem-sound, theorem-few, theorem-wrote}
 use Rattle.plainruns.proofs.LongRun.{stored}
 use Rattle.runs.specs.Calls.{Lent, imageOf, Valid, Does, Runs, Ready, meaning, unwritten, RoundHands, HandsUpTo}
-use Rattle.runs.specs.Calls.Runs.{stop, go}
+use Rattle.runs.specs.Calls.Runs.{go}
+use Rattle.runs.proofs.Batched.{runs-on}
 use Rattle.runs.proofs.Meaning.{means, means-runs, begins, always-valid, meant}
 
 -- DEMAND 2: both images are valid, and mean exactly the regions whose last accepted save or delete is their save, with the shares given
@@ -161,10 +162,6 @@ demand-b-rest so si {l₀ = l₀} r run inner inner o = theorem-b-rest so si (be
 
 -- THE LIMIT of (b) is the one stored. Seat i is opened, and no call of es closes it: every round behind them hands it as many as were stored for it at its
 -- opening, or all that are left if these are fewer
-runs-on : {l m n : Lent} {ds es : List Done} → Runs l ds m → Runs m es n → Runs l (ds ++ es) n
-runs-on stop more = more
-runs-on (go st run) more = go st (runs-on run more)
-
 pub demand-b-opened : (so si : List ℕ) {l₀ l l₁ l₂ m : Lent} {ds es : List Done} {q z : Answer} → Ready so si l₀ → Runs l₀ ds l
     → (i a : ℕ) (k : Kind) (asked : ℕ) → Does l (openSeat i a k asked) q l₁ → q .shown .number ≡ 0 → Runs l₁ es l₂ → Kept i (callsOf es)
     → (x y : Which) → Does l₂ (round x y) z m → HandsUpTo (limitAsked asked) (setIn (imageOf x l₂)) (setIn (imageOf y l₂)) l₂ (z .shown) i a k

@@ -32,7 +32,7 @@ use Rattle.image.proofs.Sound.{set-rises, set-nests, set-leveled, valid-with-it
 use Rattle.queries.specs.declared.Parent.{Parent}
 use Rattle.queries.specs.Searches.{FindsAncestors, parentNumber, parentFound, FindsParent, FindsDescendants, FindsChildren}
 use Rattle.queries.specs.Joins.{JoinsSets}
-use Rattle.queries.proofs.Answers.{image-right}
+use Rattle.regions.proofs.Numbers.{image-right}
 use Rattle.runs.specs.Exact.{AncestorOf, ParentOf, DescendantIn, ChildIn, OuterFirst, SoonerFirst, Exactly, TheOne}
 
 -- A FILTER lists what passes its test; of regions that ascend each is another one

@@ -1,3 +1,4 @@
+pub mod Batched
 pub mod Meaning
 pub mod Demand
 pub mod Alone

@@ -12,11 +12,12 @@ use native.Mathlib.Omega.{arith}
 use Rattle.words.proofs.Tests.{by-test, eq-of, ne-of, eq-yes, eq-no}
 use Rattle.regions.specs.declared.Region.{Region}
 use Rattle.regions.specs.declared.Seat.{Seat}
-use Rattle.regions.specs.Numbers.{unless, imageFirst}
+use Rattle.regions.specs.Numbers.{unless}
 use Rattle.regions.specs.Sets.{Set, saved, deleted}
 use Rattle.regions.specs.Limits.{regionWidth, pairWidth}
 use Rattle.regions.specs.Calls.{written, countWritten, moreRemain, regionWords, openSetNo, saveNo, deleteNo, pointNo, ancestors, parent, boundsNo, descendants, children, Pair, joined, joinNo, pairWords}
 use Rattle.regions.specs.Desk.{seatAt, openSeatNo, closeSeatNo, turned, handedWords, countHanded, counts, poured, served, part}
+use Rattle.regions.proofs.Numbers.{number-own, own-right}
 use Rattle.regions.proofs.Seats.{handed-long, handed-fits, poured-long, poured-in}
 use Rattle.image.specs.Read.{setOf as setIn}
 use Rattle.image.specs.Valid.{valid}
@@ -30,9 +31,10 @@ use Rattle.plainruns.specs.Calls.Run.{none, then}
 use Rattle.plainruns.proofs.Good.{Good, good-next, good-opened, round-0, round-answer, round-leaves, seat-fits}
 use Rattle.plainruns.proofs.Relate.{desk-words}
 use Rattle.plainruns.proofs.Demand.{count-at, words-at}
-use Rattle.runs.specs.Calls.{Lent, imageOf, withImage, withSeats, Valid, partsOf, Does, Runs, Ready, meaning, unwritten}
-use Rattle.runs.specs.Calls.Does.{saves, deletes, findsAncestors, findsParent, findsDescendants, findsChildren, joinsSets, rounds, opensSeat, closesSeat, parts, partNumbers}
-use Rattle.runs.specs.Calls.Runs.{stop, go}
+use Rattle.runs.specs.Calls.{Lent, imageOf, withImage, withSeats, Valid, partsOf, Does, Runs, Singles, Ready, meaning, unwritten}
+use Rattle.runs.specs.Calls.Does.{saves, deletes, findsAncestors, findsParent, findsDescendants, findsChildren, joinsSets, rounds, opensSeat, closesSeat, parts, partNumbers, refusesItem, refusesBatch}
+use Rattle.runs.specs.Calls.Singles.{none as no-more, then as and-then}
+use Rattle.runs.proofs.Batched.{with-own, one-by-one}
 
 unless-0 : {X : Type 0} (n : ℕ) (x y : X) → n ≡ 0 → unless n x y ≡ x
 unless-0 n x y e = rw (eq-yes n 0 e)
@@ -55,10 +57,6 @@ means-with : (w : Which) (w′ : List ℕ) (l : Lent) (n : List Bool) → meanin
 means-with outer w′ l n = refl
 means-with inner w′ l n = refl
 
-with-self : (w : Which) (l : Lent) → withImage w (imageOf w l) l ≡ l
-with-self outer l = refl
-with-self inner l = refl
-
 valid-with : (w : Which) (w′ : List ℕ) (l : Lent) → valid w′ ≡ true → Valid l → Valid (withImage w w′ l)
 valid-with outer w′ l h k outer = h
 valid-with outer w′ l h k inner = k inner
@@ -73,10 +71,6 @@ valid-seats l desk b k inner = k inner
 settle : (m : Lent) (n : List Bool) (t : State) → meaning m n ≡ t → meaning m (t .wrote) ≡ t
 settle m n t e = ap (meaning m) (sym (ap (λ (s : State). s .wrote) e)) ∙ e
 
--- IMAGE is not the answer
-passed : (b : Bool) (num n : ℕ) → b ≡ true → num ≡ imageFirst b n → num ≡ n
-passed b num n v e = e ∙ ap (λ c. imageFirst c n) v
-
 -- a save or delete
 update : (w : Which) (l : Lent) (notes : List Bool) (w′ : List ℕ) (num n : ℕ) (S : Set) → num ≡ n → Valid l
     → ((num ≡ 0 → ⊥) → w′ ≡ imageOf w l) → (num ≡ 0 → (valid w′ ≡ true) × (setIn w′ ≡ S))
@@ -85,9 +79,15 @@ update w l notes w′ num n S e k r d =
     by-number num
     (λ z. (means-with w w′ l notes ∙ ap (λ Z. withSet w Z (meaning l notes)) (d z .1) ∙ sym (unless-0 n _ _ (sym e ∙ z)), valid-with w w′ l (d z .0) k))
     (λ z. (
-      ap (λ v. meaning (withImage w v l) notes) (r z) ∙ ap (λ m. meaning m notes) (with-self w l) ∙ sym (unless-no n _ _ (λ q. z (e ∙ q))),
-      subst Valid (sym (ap (λ v. withImage w v l) (r z) ∙ with-self w l)) k,
+      ap (λ v. meaning (withImage w v l) notes) (r z) ∙ ap (λ m. meaning m notes) (with-own w l) ∙ sym (unless-no n _ _ (λ q. z (e ∙ q))),
+      subst Valid (sym (ap (λ v. withImage w v l) (r z) ∙ with-own w l)) k,
     ))
+
+-- a call that left every word
+unchanged : (w : Which) (l : Lent) (notes : List Bool) (w′ : List ℕ) → w′ ≡ imageOf w l → Valid l → (meaning (withImage w w′ l) notes ≡ meaning l notes) × Valid (withImage w w′ l)
+unchanged w l notes w′ e k =
+    let q : withImage w w′ l ≡ l = ap (λ v. withImage w v l) e ∙ with-own w l in
+    (ap (λ m. meaning m notes) q, subst Valid (sym q) k)
 
 -- WHAT A SEARCH SHOWS
 shown-lists : (num n total : ℕ) (out out′ : List ℕ) (rs : List Region) → num ≡ n → ((num ≡ 0 → ⊥) → (total ≡ 0) × (out′ ≡ out))
@@ -167,19 +167,19 @@ pub means : (so si : List ℕ) {l m : Lent} {c : Call} {x : Answer} (notes : Lis
 unfolding answer looked next
 means so si {l = l} notes (saves {a = a} {r = r} {number = num} {w′ = w′} w h) g k =
     let q = set-of w l notes in
-    let e = passed (valid (imageOf w l)) num _ (k w) (h .number-is) ∙ ap (λ S. saveNo S a r) (sym q) in
+    let e = number-own (valid (imageOf w l)) num _ (k w) (h .number-is) ∙ ap (λ S. saveNo S a r) (sym q) in
     let u = update w l notes w′ num (saveNo (setOf w (meaning l notes)) a r) (saved r (setOf w (meaning l notes))) e k (h .refused)
     (λ z. (h .done z .0, h .done z .1 ∙ ap (saved r) (sym q))) in
     (record { answers = ap says e; leaves = settle (withImage w w′ l) notes _ (u .0) }, u .1)
 means so si {l = l} notes (deletes {a = a} {p = p} {number = num} {w′ = w′} w h) g k =
     let q = set-of w l notes in
-    let e = passed (valid (imageOf w l)) num _ (k w) (h .number-is) ∙ ap (λ S. deleteNo S a p) (sym q) in
+    let e = number-own (valid (imageOf w l)) num _ (k w) (h .number-is) ∙ ap (λ S. deleteNo S a p) (sym q) in
     let u = update w l notes w′ num (deleteNo (setOf w (meaning l notes)) a p) (deleted p (setOf w (meaning l notes))) e k (h .refused)
     (λ z. (h .done z .0, h .done z .1 ∙ ap (deleted p) (sym q))) in
     (record { answers = ap says e; leaves = settle (withImage w w′ l) notes _ (u .0) }, u .1)
 means so si {l = l} notes (findsAncestors {a = a} {p = p} {ch = ch} {out = out} {number = num} {total = total} {out′ = out′} w h) g k = (
   record {
-    answers = shown-lists num (pointNo a p) total out out′ _ (passed (valid (imageOf w l)) num _ (k w) (h .number-is)) (λ z. (h .refused z .0, h .refused z .2)) (λ z. (h .done z .0, h .done z .2))
+    answers = shown-lists num (pointNo a p) total out out′ _ (number-own (valid (imageOf w l)) num _ (k w) (h .number-is)) (λ z. (h .refused z .0, h .refused z .2)) (λ z. (h .done z .0, h .done z .2))
         ∙ ap (λ S. unless (pointNo a p) (lists out (ancestors ch p S)) (refuses (pointNo a p) out)) (sym (set-of w l notes));
     leaves = refl;
   },
@@ -187,7 +187,7 @@ means so si {l = l} notes (findsAncestors {a = a} {p = p} {ch = ch} {out = out} 
 )
 means so si {l = l} notes (findsParent {a = a} {p = p} {v = v} {x = x} w h) g k = (
   record {
-    answers = shown-finds (parentNumber x) (pointNo a p) (parentFound x) _ (passed (valid (imageOf w l)) (parentNumber x) _ (k w) (h .number-is)) (h .refused) (h .done)
+    answers = shown-finds (parentNumber x) (pointNo a p) (parentFound x) _ (number-own (valid (imageOf w l)) (parentNumber x) _ (k w) (h .number-is)) (h .refused) (h .done)
         ∙ ap (λ S. unless (pointNo a p) (finds (parent p v S)) (says (pointNo a p))) (sym (set-of w l notes));
     leaves = refl;
   },
@@ -195,7 +195,7 @@ means so si {l = l} notes (findsParent {a = a} {p = p} {v = v} {x = x} w h) g k 
 )
 means so si {l = l} notes (findsDescendants {a = a} {b = b} {e = e} {f = f} {out = out} {number = num} {count = count} {more = more} {out′ = out′} w h) g k = (
   record {
-    answers = shown-pages num (boundsNo a b e) count more out out′ _ (passed (valid (imageOf w l)) num _ (k w) (h .number-is)) (h .refused) (h .done)
+    answers = shown-pages num (boundsNo a b e) count more out out′ _ (number-own (valid (imageOf w l)) num _ (k w) (h .number-is)) (h .refused) (h .done)
         ∙ ap (λ S. unless (boundsNo a b e) (pages out (descendants b e f S)) (refuses (boundsNo a b e) out)) (sym (set-of w l notes));
     leaves = refl;
   },
@@ -203,7 +203,7 @@ means so si {l = l} notes (findsDescendants {a = a} {b = b} {e = e} {f = f} {out
 )
 means so si {l = l} notes (findsChildren {a = a} {b = b} {e = e} {v = v} {f = f} {out = out} {number = num} {count = count} {more = more} {out′ = out′} w h) g k = (
   record {
-    answers = shown-pages num (boundsNo a b e) count more out out′ _ (passed (valid (imageOf w l)) num _ (k w) (h .number-is)) (h .refused) (h .done)
+    answers = shown-pages num (boundsNo a b e) count more out out′ _ (number-own (valid (imageOf w l)) num _ (k w) (h .number-is)) (h .refused) (h .done)
         ∙ ap (λ S. unless (boundsNo a b e) (pages out (children b e v f S)) (refuses (boundsNo a b e) out)) (sym (set-of w l notes));
     leaves = refl;
   },
@@ -211,7 +211,7 @@ means so si {l = l} notes (findsChildren {a = a} {b = b} {e = e} {v = v} {f = f}
 )
 means so si {l = l} notes (joinsSets {a = a} {k = kind} {out = out} {number = num} {total = total} {out′ = out′} x y h) g k = (
   record {
-    answers = shown-joins num (joinNo a) total out out′ _ (passed (valid (imageOf x l) && valid (imageOf y l)) num _ (ap₂ _&&_ (k x) (k y)) (h .number-is)) (h .refused) (h .done)
+    answers = shown-joins num (joinNo a) total out out′ _ (number-own (valid (imageOf x l) && valid (imageOf y l)) num _ (ap₂ _&&_ (k x) (k y)) (h .number-is)) (h .refused) (h .done)
         ∙ ap₂ (λ S Z. unless (joinNo a) (joins out (joined S Z a kind)) (refuses (joinNo a) out)) (sym (set-of x l notes)) (sym (set-of y l notes));
     leaves = refl;
   },
@@ -221,7 +221,7 @@ means so si {l = l} notes (rounds {number = num} {counts = ns} {desk′ = desk�
     let s = meaning l notes in
     let X = setOf x s in
     let Y = setOf y s in
-    let z : num ≡ 0 = passed (valid (imageOf x l) && valid (imageOf y l)) num _ (ap₂ _&&_ (k x) (k y)) (h .number-is) ∙ round-0 so si s g in
+    let z : num ≡ 0 = number-own (valid (imageOf x l) && valid (imageOf y l)) num _ (ap₂ _&&_ (k x) (k y)) (h .number-is) ∙ round-0 so si s g in
     let d : (ns ≡ counts X Y (l .desk)) × (desk′ ≡ map (turned X Y) (l .desk)) × (b′ ≡ served X Y (l .desk) (l .buffer)) =
     subst₂ (λ (P Q : Set). (ns ≡ counts P Q (l .desk)) × (desk′ ≡ map (turned P Q) (l .desk)) × (b′ ≡ served P Q (l .desk) (l .buffer))) (sym (set-of x l notes)) (sym (set-of y l notes))
     (h .counts-are ∙ unless-0 num _ _ z, h .desk-is ∙ unless-0 num _ _ z, h .buffer-is ∙ unless-0 num _ _ z) in (
@@ -257,24 +257,32 @@ means so si {l = l} notes (closesSeat {number = num} {desk′ = desk′} i h) g 
     )
 means so si {l = l} notes (parts i n e h) g k = (record { answers = ap handsBack (h .part-is .words-are ∙ ap (λ b. part (l .desk) b i n) e); leaves = refl }, k)
 means so si notes (partNumbers i n h) g k = (record { answers = ap says (h .number-is); leaves = refl }, k)
+means so si {l = l} notes (refusesItem {w′ = w′} w h) g k =
+    let u = unchanged w l notes w′ (h .1) k in
+    (record { answers = ap says (h .0); leaves = u .0 }, u .1)
+means so si {l = l} notes (refusesBatch {words = words} {places = places} {number = num} {w′ = w′} w h n) g k =
+    let e = number-own (valid (imageOf w l)) num _ (k w) (h .number-is) in
+    let r = h .refused n in
+    let u = unchanged w l notes w′ (r .0) k in
+    (record { answers = ap₂ refuses e (r .1); leaves = u .0 }, u .1)
 
--- so is every run
-pub means-runs : (so si : List ℕ) {l m : Lent} {ds : List Done} (notes : List Bool) → Runs l ds m → Good so si (meaning l notes) → Valid l
+-- so is every run, since it is one of single calls
+means-singles : (so si : List ℕ) {l m : Lent} {ds : List Done} (notes : List Bool) → Singles l ds m → Good so si (meaning l notes) → Valid l
     → ((notes′ : List Bool) × Run (meaning l notes) ds (meaning m notes′)) × Valid m
-means-runs so si notes stop g k = ((notes, none), k)
-means-runs so si {l = l} notes (go {d = d} h r) g k =
+means-singles so si notes no-more g k = ((notes, none), k)
+means-singles so si {l = l} notes (and-then {d = d} h r) g k =
     let u = means so si notes h g k in
-    let v = means-runs so si (next (d .call) (meaning l notes) .wrote) r (rw (u .0 .leaves) (good-next so si (d .call) (meaning l notes) g)) (u .1) in
+    let v = means-singles so si (next (d .call) (meaning l notes) .wrote) r (rw (u .0 .leaves) (good-next so si (d .call) (meaning l notes) g)) (u .1) in
     ((v .0 .0, then (u .0) (v .0 .1)), v .1)
 
--- THE BEGINNING
-image-passed : (b : Bool) (n : ℕ) → _≡_ {A = ℕ} 0 (imageFirst b n) → n ≡ 0
-image-passed true n e = sym e
-image-passed false n e = absurd (let z : _≡_ {A = ℕ} 0 1 = e in omega arith)
+pub means-runs : (so si : List ℕ) {l m : Lent} {ds : List Done} (notes : List Bool) → Runs l ds m → Good so si (meaning l notes) → Valid l
+    → ((notes′ : List Bool) × Run (meaning l notes) ds (meaning m notes′)) × Valid m
+means-runs so si notes run g k = means-singles so si notes (one-by-one run) g k
 
+-- THE BEGINNING
 opening-0 : (w shares : List ℕ) → 0 ≡ openNo w shares → openSetNo shares ≡ 0
 unfolding openNo
-opening-0 w shares e = image-passed (eqb (length w) imageWords) (openSetNo shares) e
+opening-0 w shares e = own-right (eqb (length w) imageWords) (openSetNo shares) e
 
 pub begins : (so si : List ℕ) (l : Lent) → Ready so si l → Opened so si (meaning l unwritten) × Valid l
 begins so si l r =

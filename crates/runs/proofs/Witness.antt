@@ -1,4 +1,4 @@
--- The theorems on runs are not empty: here is a beginning and a run, by computing them. A region is saved, found around a position, and deleted again.
+-- The theorems on runs are not empty: here is a beginning and a run, by computing them. A region is saved, found around a position, and deleted again, all by single calls; then a batch does as much.
 -- Assumes nothing.
 use Prim.Native.Nat.{ℕ, suc, _+_, _-_, _*_, _<_, _≤_}
 use mathlib.Core.Path.{_≡_, refl, sym, ap, _∙_}
@@ -16,6 +16,8 @@ use Rattle.regions.specs.declared.Choice.the-variants.{Strict}
 use Rattle.regions.specs.Positions.{wellBound, wellFormed, spans, holds}
 use Rattle.regions.specs.Sets.{emptySet, of, isAt, saved, deleted}
 use Rattle.regions.specs.Calls.{foreign, saveNo, deleteNo, pointNo, written}
+use Rattle.regions.specs.Items.{item, itemRegion, itemOf, firstItems, batchNo}
+use Rattle.regions.specs.Items.Item.{unknownItem}
 use Rattle.xrtree.specs.Tree.{Leaf, Tree, listed}
 use Rattle.xrtree.specs.Rules.{filled, firstPlace, linked, rule1, rule2, noneStabs, pageLists, flagged, rule3, rule4, rule5, sharesKept, rule6, placed}
 use Rattle.xrtree.specs.Search.{steps}
@@ -25,16 +27,18 @@ use Rattle.image.specs.Read.{entriesFrom, readTree, depthOf, treeOf, setOf}
 use Rattle.image.specs.Valid.{sized, rule7, treeRules, valid}
 use Rattle.index.specs.Opening.{openedImage}
 use Rattle.index.specs.Changes.{Saves, Deletes}
+use Rattle.index.specs.Batches.{Batches}
+use Rattle.index.specs.Batches.Singly.{none, then}
 use Rattle.queries.specs.Searches.{FindsAncestors}
 use Rattle.index.proofs.Opened.{open-done}
 use Rattle.index.proofs.Empty.{none-placed, one-placed, opened-word, opened-set, opened-valid}
 use Rattle.plainruns.specs.Calls.{Done}
 use Rattle.plainruns.specs.Calls.Which.{outer}
-use Rattle.plainruns.specs.Calls.Look.{ancestorSearch}
+use Rattle.plainruns.specs.Calls.Look.{ancestorSearch, noItem}
 use Rattle.plainruns.specs.Calls.Call.{save, delete, look}
 use Rattle.runs.specs.Calls.{Runs, Ready, tells}
 use Rattle.runs.specs.Calls.Does.{saves, deletes, findsAncestors}
-use Rattle.runs.specs.Calls.Runs.{stop, go}
+use Rattle.runs.specs.Calls.Runs.{stop, go, batch}
 use Rattle.runs.proofs.Alone.{beside, ready}
 
 -- account 0 has a share of 2; the region
@@ -175,6 +179,22 @@ finds-phase =
       done = λ z. (rw holding-set, at-leaf (λ h t. 1 ≡ steps h Strict 50 t) refl, rw holding-set refl);
     }
 
+-- THE BATCH: the region is saved, and not a second time; an item that is neither save nor delete; the region is deleted. The fifth place stays
+abbrev pub items : List ℕ
+items = 0 ∷ 0 ∷ 10 ∷ 90 ∷ 1 ∷ 101 ∷ 0 ∷ 0 ∷ 10 ∷ 90 ∷ 1 ∷ 101 ∷ 2 ∷ 0 ∷ 10 ∷ 90 ∷ 1 ∷ 101 ∷ 1 ∷ 0 ∷ 10 ∷ 0 ∷ 0 ∷ 0 ∷ []
+
+abbrev pub places : List ℕ
+places = 9 ∷ 9 ∷ 9 ∷ 9 ∷ 9 ∷ []
+
+batches-phase : Batches opened items places 0 opened (0 ∷ 4 ∷ 12 ∷ 0 ∷ 9 ∷ [])
+unfolding batchNo firstNo firstItems itemOf itemRegion item
+batches-phase =
+    record {
+      number-is = rw opened-valid-here;
+      refused = λ n. absurd (n refl);
+      done = λ z. (0 ∷ 4 ∷ 12 ∷ 0 ∷ [], then saves-phase (then saves-again (then {i = unknownItem 0 2} (refl, refl) (then deletes-phase none))), refl);
+    }
+
 -- THE RUN
 given-sum : leb (sum given) 500 ≡ true
 unfolding sum
@@ -189,7 +209,12 @@ history =
     record { call = look 0 (ancestorSearch outer 50 Strict (replicate 4 0)); told = tells 0 1 false [] found 1 } ∷
     record { call = save outer 0 phase; told = tells 4 0 false [] [] 0 } ∷
     record { call = delete outer 0 10; told = tells 0 0 false [] [] 0 } ∷
+    record { call = save outer 0 phase; told = tells 0 0 false [] [] 0 } ∷
+    record { call = save outer 0 phase; told = tells 4 0 false [] [] 0 } ∷
+    record { call = look 0 (noItem outer 2); told = tells 12 0 false [] [] 0 } ∷
+    record { call = delete outer 0 10; told = tells 0 0 false [] [] 0 } ∷
     []
 
 pub runs-so : Runs (beside opened opened) history (beside opened opened)
-runs-so = go (saves outer saves-phase) (go (findsAncestors outer finds-phase) (go (saves outer saves-again) (go (deletes outer deletes-phase) stop)))
+unfolding firstItems itemOf itemRegion item
+runs-so = go (saves outer saves-phase) (go (findsAncestors outer finds-phase) (go (saves outer saves-again) (go (deletes outer deletes-phase) (batch outer batches-phase stop))))

@@ -1,9 +1,9 @@
--- Runs of the public calls: what a caller lends (two images, eight seats, a round buffer), one call by its own record, a run of calls, and how it begins.
+-- Runs of the public calls: what a caller lends (two images, eight seats, a round buffer), one call by its own record, a run of calls and batches, and how it begins.
 -- Assumes nothing.
 use Prim.Native.Nat.{ℕ, suc, _*_, _<_, min}
 use mathlib.Core.Path.{_≡_}
 use mathlib.Core.Bool.{Bool, true, false}
-use mathlib.Core.List.{List, [], _∷_}
+use mathlib.Core.List.{List, [], _∷_, _++_}
 use lib.ListN.{length, take, drop, getD, replicate}
 use denote.Ref.{RefT, now}
 use Rattle.regions.specs.Limits.{accountCount, bufferWords}
@@ -15,19 +15,22 @@ use Rattle.regions.specs.declared.Open.{Open}
 use Rattle.regions.specs.declared.Seat.{Seat}
 use Rattle.regions.specs.Sets.{Set}
 use Rattle.regions.specs.Numbers.{DONE}
+use Rattle.regions.specs.Items.{Item, itemsOf}
+use Rattle.regions.specs.Items.Item.{saveItem, deleteItem, unknownItem}
 use Rattle.regions.specs.Desk.{closed, openAt, seatAt, seatWord}
 use Rattle.image.specs.Read.{setOf}
 use Rattle.image.specs.Valid.{valid}
 use Rattle.queries.specs.declared.Parent.{Parent}
 use Rattle.index.specs.Opening.{OpensSet}
 use Rattle.index.specs.Changes.{Saves, Deletes}
+use Rattle.index.specs.Batches.{Single, Batches}
 use Rattle.queries.specs.Searches.{FindsAncestors, FindsParent, FindsDescendants, FindsChildren, parentNumber, parentFound}
 use Rattle.queries.specs.Joins.{JoinsSets}
 use Rattle.desk.specs.Promises.{OpensDesk, OpensSeat, ClosesSeat, Rounds, LendsPart, PartNumber}
 use Rattle.plainruns.specs.Calls.{Which, State, Call, Shown, Answer, Done, left, Served, Passed}
 use Rattle.plainruns.specs.Calls.Which.{outer, inner}
-use Rattle.plainruns.specs.Calls.Look.{ancestorSearch, parentSearch, descendantSearch, childSearch, join}
-use Rattle.plainruns.specs.Calls.Call.{save, delete, look, round, openSeat, closeSeat, askPart, askPartNo}
+use Rattle.plainruns.specs.Calls.Look.{ancestorSearch, parentSearch, descendantSearch, childSearch, join, noItem}
+use Rattle.plainruns.specs.Calls.Call.{save, delete, look, round, openSeat, closeSeat, askPart, askPartNo, noBatch}
 
 -- WHAT THE CALLER LENDS, in words and seats
 pub record Lent : Type 0 where
@@ -92,11 +95,34 @@ pub data Does : Lent → Call → Answer → Lent → Type 0 where
   parts : {l : Lent} {buffer r : RefT (List ℕ)} (i n : ℕ) → now buffer ≡ l .buffer → LendsPart (l .desk) buffer i n r
       → Does l (askPart i n) (tells 0 0 false [] (now r) 0) l
   partNumbers : {l : Lent} {number : ℕ} (i n : ℕ) → PartNumber (l .desk) (l .buffer) i n number → Does l (askPartNo i n) (tells number 0 false [] [] 0) l
+  -- an item of a batch that is neither a save nor a delete, and a batch that is refused as a whole
+  refusesItem : {l : Lent} {a k : ℕ} {number : ℕ} {w′ : List ℕ} (w : Which) → Single (imageOf w l) (unknownItem a k) number w′
+      → Does l (look a (noItem w k)) (tells number 0 false [] [] 0) (withImage w w′ l)
+  refusesBatch : {l : Lent} {words places : List ℕ} {number : ℕ} {w′ places′ : List ℕ} (w : Which) → Batches (imageOf w l) words places number w′ places′ → (number ≡ DONE → ⊥)
+      → Does l (noBatch w words places) (tells number 0 false [] places′ 0) (withImage w w′ l)
 
--- A RUN: call after call, and nobody else writes in between
+-- A BATCH (change request C-14) counts as the calls of its items, each of its account and answered by the number in its place
+abbrev pub itemCall : Which → Item → Call
+itemCall w (saveItem a r) = save w a r
+itemCall w (deleteItem a p) = delete w a p
+itemCall w (unknownItem a k) = look a (noItem w k)
+
+abbrev pub itemsDone : Which → List Item → List ℕ → List Done
+itemsDone w [] places = []
+itemsDone w (i ∷ is) [] = []
+itemsDone w (i ∷ is) (n ∷ places) = record { call = itemCall w i; told = tells n 0 false [] [] 0 } ∷ itemsDone w is places
+
+-- A RUN: call after call, batches that are not refused as a whole among them, and nobody else writes in between
 pub data Runs : Lent → List Done → Lent → Type 0 where
   stop : {l : Lent} → Runs l [] l
   go : {l m n : Lent} {d : Done} {ds : List Done} → Does l (d .call) (d .told) m → Runs m ds n → Runs l (d ∷ ds) n
+  batch : {l n : Lent} {words places w′ places′ : List ℕ} {ds : List Done} (w : Which) → Batches (imageOf w l) words places DONE w′ places′ → Runs (withImage w w′ l) ds n
+      → Runs l (itemsDone w (itemsOf words) places′ ++ ds) n
+
+-- and one of single calls alone
+pub data Singles : Lent → List Done → Lent → Type 0 where
+  none : {l : Lent} → Singles l [] l
+  then : {l m n : Lent} {d : Done} {ds : List Done} → Does l (d .call) (d .told) m → Singles m ds n → Singles l (d ∷ ds) n
 
 -- HOW A RUN BEGINS: two sets opened with sixteen shares each and the desk opened, all three answered 0; a buffer of 1,024 words, any ones
 pub record Ready (so si : List ℕ) (l : Lent) : Type 0 where

@@ -41,6 +41,10 @@ pub const AROUND: usize = 17;
 
 pub const AROUND_STEPS: usize = 18;
 
+pub const GIVE: usize = 19;
+
+pub const BATCH: usize = 20;
+
 // What a command is put to, by its capital letter in the table: one image (I), two images (P), the desk (D), or the store itself (S).
 pub const IMAGE: usize = 73;
 
@@ -137,14 +141,16 @@ fn which(line: &[u8], n: usize, forms: &[u8], commands: usize) -> usize
     what
 }
 
-// What a number has to be below, by its letter: s a set, k a kind, c a choice, f a flag, r room in the answer buffer, a a word of an image, z an image's size, i a seat that is
-// written directly, and n any number.
+// What a number has to be below, by its letter: s a set, k a kind, c a choice, f a flag, g a word of the given buffer, r how many words of it or of the answer buffer are lent, a a word of an image,
+// z an image's size, i a seat that is written directly, and n any number.
 fn bound(letter: usize) -> usize {
     match letter {
         // s, c, f
         115 | 99 | 102 => 2,
         // k
         107 => 3,
+        // g
+        103 => 4096,
         // r
         114 => 4097,
         // a
@@ -256,6 +262,8 @@ pub fn read(line: &[u8]) -> Command {
         size        S sz                \
         place       D ifnknfnn          \
         around      I snncr             \
-        aroundsteps I snnc              ",
+        aroundsteps I snnc              \
+        give        S gn                \
+        batch       I srr               ",
     )
 }

@@ -16,6 +16,8 @@ pub const CROSS: u32 = 5;
 pub const SHARE: u32 = 6;
 pub const ABSENT: u32 = 7;
 pub const SHARES: u32 = 8;
+pub const FORM: u32 = 12;
+pub const ROOM: u32 = 13;
 pub const LEVEL: u32 = 14;
 
 pub fn document_of(p: u32) -> u32 {
@@ -81,6 +83,14 @@ pub fn open_number(words: usize, shares: &[u32; 16]) -> u32 {
     }
 }
 
+pub fn batch_number(items: &[u32], places: &[u32]) -> u32 {
+    match () {
+        _ if items.chunks(6).any(|item| item.len() < 6) => FORM,
+        _ if items.chunks(6).count() > places.len() => ROOM,
+        _ => 0,
+    }
+}
+
 impl Set {
     pub fn empty(shares: [u32; 16]) -> Set {
         Set { shares, regions: Vec::new() }
@@ -113,6 +123,37 @@ impl Set {
             _ if !self.regions.iter().any(|x| x.start == start) => ABSENT,
             _ => 0,
         }
+    }
+
+    pub fn save(&mut self, account: u32, r: Region) -> u32 {
+        let number = self.save_number(account, &r);
+        if number == 0 {
+            self.regions.push(r);
+        }
+        number
+    }
+
+    pub fn delete(&mut self, account: u32, start: u32) -> u32 {
+        let number = self.delete_number(account, start);
+        if number == 0 {
+            self.regions.retain(|r| r.start != start);
+        }
+        number
+    }
+
+    /// The number of a batch, and the places behind it: one item after the other, by the single calls.
+    pub fn batch(&mut self, items: &[u32], places: &[u32]) -> (u32, Vec<u32>) {
+        let (number, mut after) = (batch_number(items, places), places.to_vec());
+        if number == 0 {
+            for (place, item) in after.iter_mut().zip(items.chunks(6)) {
+                *place = match item[0] {
+                    0 => self.save(item[1], Region { start: item[2], end: item[3], level: item[4], reference: item[5] }),
+                    1 => self.delete(item[1], item[2]),
+                    _ => FORM,
+                };
+            }
+        }
+        (number, after)
     }
 
     pub fn point_number(&self, account: u32, p: u32) -> u32 {

@@ -3,11 +3,10 @@
 use borrow.Author.Needs.{needs}
 use denote.Ref.{now}
 use Rattle.words.proofs.Tests.{not-true, not-false}
-use Rattle.listing.proofs.Regions.{takes-form, takes-refused, takes-room, takes-done}
+use Rattle.listing.proofs.Regions.{takes-form, takes-saved}
 use Rattle.listing.proofs.take_region.Statement.{statement}
 use Rattle.listing.proofs.take_region.Tie as tie
-use Rattle.changes.proofs.save.Reads as save-reads
-use Rattle.changes.proofs.counted.Reads as counted-reads
+use Rattle.changes.proofs.save_kept.Reads as save-kept-reads
 use Rattle.listing.proofs.not_taken.Reads as not-taken-reads
 use Rattle.form.proofs.read_region.Reads as read-region-reads
 use Rattle.regions.proofs.account_of.Reads as account-of-reads
@@ -24,26 +23,14 @@ returns c = takes-form _ _ (now (c .before .before .before .before .before .befo
 account-of-requires : tie.Need-account-of-requires
 account-of-requires c κs = search needs
 
-save-requires : tie.Need-save-requires
-save-requires c κs = (c .before .before .before .before .before .before .before .before .pre .1 .0, c .before .before .before .before .before .before .before .before .pre .1 .1 .1 _)
-
-not-taken-requires-2 : tie.Need-not-taken-requires-2
-not-taken-requires-2 c κs = search needs
+save-kept-requires : tie.Need-save-kept-requires
+save-kept-requires c κs = c .before .before .before .before .before .before .before .before .pre .1
 
 same-length : tie.Need-same-length
 same-length c = search needs
 
 returns-2 : tie.Need-returns-2
-returns-2 c = takes-refused _ _ (now (c .before .before .before .before .before .before .before .before .before .before .before .before .before .args .img)) _ _ (c .before .before .before .before .before .before .before .before .before .before .before .before .before .pre .1 .0) _ (not-false (c .before .before .before .before .before .before .before .before .before .before .read-region .result .ok) (c .before .before .before .before .before .before .before .before .if1 .left)) (c .before .before .before .before .before .before .before .before .before .before .read-region .ensures) _ (c .before .before .before .before .before .before .account-of .ensures) _ _ _ _ _ (c .before .before .before .before .save .ensures) (c .before .if2 .taken) (c .not-taken2 .ensures .0)
-
-counted-requires : tie.Need-counted-requires
-counted-requires c κs = takes-room _ _ (now (c .before .before .before .before .before .before .before .before .before .before .before .before .args .img)) _ _ (c .before .before .before .before .before .before .before .before .before .before .before .before .pre .1 .0) _ (not-false (c .before .before .before .before .before .before .before .before .before .read-region .result .ok) (c .before .before .before .before .before .before .before .if1 .left)) (c .before .before .before .before .before .before .before .before .before .read-region .ensures) _ (c .before .before .before .before .before .account-of .ensures) _ (c .before .before .before .before .before .before .before .before .before .before .before .before .args .held) _ (c .before .before .before .save .ensures) (c .if2 .left) (c .before .before .before .before .before .before .before .before .before .before .before .before .pre .1 .1)
-
-same-length-2 : tie.Need-same-length-2
-same-length-2 c = search needs
-
-returns-3 : tie.Need-returns-3
-returns-3 c = takes-done _ _ (now (c .before .before .before .before .before .before .before .before .before .before .before .before .before .args .img)) _ _ (c .before .before .before .before .before .before .before .before .before .before .before .before .before .pre .1 .0) _ (not-false (c .before .before .before .before .before .before .before .before .before .before .read-region .result .ok) (c .before .before .before .before .before .before .before .before .if1 .left)) (c .before .before .before .before .before .before .before .before .before .before .read-region .ensures) _ (c .before .before .before .before .before .before .account-of .ensures) _ (c .before .before .before .before .before .before .before .before .before .before .before .before .before .args .held) _ _ (c .before .before .before .before .save .ensures) (c .before .if2 .left) (c .before .before .before .before .before .before .before .before .before .before .before .before .before .pre .1 .1) (c .counted .ensures)
+returns-2 c = takes-saved _ _ (now (c .before .before .before .before .before .before .before .before .before .before .before .before .args .img)) _ _ (c .before .before .before .before .before .before .before .before .before .before .before .before .pre .1 .0) _ (not-false (c .before .before .before .before .before .before .before .before .before .read-region .result .ok) (c .before .before .before .before .before .before .before .if1 .left)) (c .before .before .before .before .before .before .before .before .before .read-region .ensures) _ (c .before .before .before .before .before .account-of .ensures) _ _ _ (c .before .before .before .save-kept .ensures .0) (c .before .before .before .save-kept .ensures .1) (c .before .before .before .save-kept .ensures .2)
 
 pub take-region-spec : {M : Type 1} → statement M
 take-region-spec =
@@ -53,10 +40,6 @@ take-region-spec =
     not-taken-requires
     returns
     account-of-requires
-    save-requires
-    not-taken-requires-2
+    save-kept-requires
     same-length
-    returns-2
-    counted-requires
-    same-length-2
-    returns-3)
+    returns-2)

@@ -13,11 +13,11 @@ use Rattle.script.proofs.line_end.Reads as line-end-reads
 use Rattle.script.proofs.read.Reads as read-reads
 
 abbrev Inv-loop : tie.InvT-loop
-Inv-loop text outer₀ inner₀ buffer₀ answers₀ store₀ line₀ at₀ outer inner buffer answers store line at =
-    (line ≤ at) × (at ≤ length text) × (length outer ≡ 12300) × (length inner ≡ 12300) × (length buffer ≡ 1024) × (length answers ≡ 4096)
+Inv-loop text outer₀ inner₀ buffer₀ given₀ answers₀ store₀ line₀ at₀ outer inner buffer given answers store line at =
+    (line ≤ at) × (at ≤ length text) × (length outer ≡ 12300) × (length inner ≡ 12300) × (length buffer ≡ 1024) × (length given ≡ 4096) × (length answers ≡ 4096)
 
 abbrev μ-loop : tie.MeasureT-loop
-μ-loop text outer₀ inner₀ buffer₀ answers₀ store₀ line₀ at₀ outer inner buffer answers store line at = length text - at
+μ-loop text outer₀ inner₀ buffer₀ given₀ answers₀ store₀ line₀ at₀ outer inner buffer given answers store line at = length text - at
 
 fresh-requires : tie.Need-fresh-requires Inv-loop μ-loop
 fresh-requires c κs = search needs
@@ -67,6 +67,9 @@ slice-aggregate-play-3 c = search needs
 slice-aggregate-play-4 : tie.Need-slice-aggregate-play-4 Inv-loop μ-loop
 slice-aggregate-play-4 c = search needs
 
+slice-aggregate-play-5 : tie.Need-slice-aggregate-play-5 Inv-loop μ-loop
+slice-aggregate-play-5 c = search needs
+
 play-requires : tie.Need-play-requires Inv-loop μ-loop
 play-requires c κs = search needs
 
@@ -104,6 +107,7 @@ play-all-spec =
     slice-aggregate-play-2
     slice-aggregate-play-3
     slice-aggregate-play-4
+    slice-aggregate-play-5
     play-requires
     add-at
     loop-less
