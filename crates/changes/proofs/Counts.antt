@@ -35,6 +35,12 @@ count-room : (w held : List ℕ) (a : ℕ) (r : Region) → T (valid w) → save
 count-room w held a r v e l c =
     omega (arith, c .1 a l, save-done (setOf w) a r e .room, part-of (setOf w .shares) a, le-of (sum (setOf w .shares)) 500 (of-T _ (valid-facts w v .sums)))
 
+-- where a region may be deleted, its account holds one less without it
+one-less : (w : List ℕ) (a p : ℕ) → T (valid w) → deleteNo (setOf w) a p ≡ 0 → suc (heldBy a (deleted p (setOf w))) ≡ heldBy a (setOf w)
+one-less w a p v e =
+    let m = delete-done (setOf w) a p e in
+    subst (λ k. suc (heldBy k (deleted p (setOf w))) ≡ heldBy k (setOf w)) (m .own .same) (held-deleted (setOf w) p (set-rises w v) (m .held))
+
 -- THE COUNTS BEHIND A CALL: one account's is another, those of the other accounts stay
 module _ (w w′ held : List ℕ) (a : ℕ) (l : a < 16) (c : Counted held w) where
   counts-at : (n : ℕ) → heldBy a (setOf w′) ≡ n → ((b : ℕ) → (b ≡ a → ⊥) → heldBy b (setOf w′) ≡ heldBy b (setOf w)) → Counted (set held a n) w′
@@ -58,12 +64,9 @@ module _ (w w′ held : List ℕ) (a : ℕ) (l : a < 16) (c : Counted held w) wh
   -- a delete
   counts-off : (p : ℕ) → T (valid w) → deleteNo (setOf w) a p ≡ 0 → setOf w′ ≡ deleted p (setOf w) → Counted (set held a (getD held a 0 - 1)) w′
   counts-off p v e s =
-      let m = delete-done (setOf w) a p e in
-      let o : a ≡ account p = sym (m .own .same) in
-      let h : suc (heldBy a (deleted p (setOf w))) ≡ heldBy a (setOf w) = subst (λ k. suc (heldBy k (deleted p (setOf w))) ≡ heldBy k (setOf w)) (sym o) (held-deleted (setOf w) p (set-rises w v) (m .held)) in
       counts-at (getD held a 0 - 1)
-      (ap (heldBy a) s ∙ omega (arith, h, c .1 a l))
-      (λ b q. ap (heldBy b) s ∙ others-deleted (setOf w) p b (λ z. q (z ∙ sym o)))
+      (ap (heldBy a) s ∙ omega (arith, one-less w a p v e, c .1 a l))
+      (λ b q. ap (heldBy b) s ∙ others-deleted (setOf w) p b (λ z. q (z ∙ delete-done (setOf w) a p e .own .same)))
 
 -- WHAT IS KEPT by a call on a valid image, done or refused
 module _ (w held : List ℕ) (v : T (valid w)) (c : Counted held w) where
@@ -86,10 +89,9 @@ module _ (w held : List ℕ) (v : T (valid w)) (c : Counted held w) where
   module _ (a p : ℕ) (n : ℕ) (w′ : List ℕ) (s : DeletesIn w a p n w′) (z : n ≡ 0) where
     pub delete-counts : (a < 16) × (0 < getD held a 0)
     delete-counts =
-        let m = delete-done (setOf w) a p (sym (s .number-is) ∙ z) in
-        let b : a < 16 = omega (arith, m .own .range) in
-        let h : suc (heldBy a (deleted p (setOf w))) ≡ heldBy a (setOf w) = subst (λ k. suc (heldBy k (deleted p (setOf w))) ≡ heldBy k (setOf w)) (m .own .same) (held-deleted (setOf w) p (set-rises w v) (m .held)) in
-        (b, omega (arith, h, c .1 a b))
+        let e = sym (s .number-is) ∙ z in
+        let b : a < 16 = omega (arith, delete-done (setOf w) a p e .own .range) in
+        (b, omega (arith, one-less w a p v e, c .1 a b))
 
     pub delete-counted : (held′ : List ℕ) → held′ ≡ set held a (getD held a 0 - 1) → DeletesIn w a p 0 w′ × T (valid w′) × Counted held′ w′
     delete-counted held′ h =

@@ -30,7 +30,7 @@ same-length-3 : tie.Need-same-length-3
 same-length-3 c = search needs
 
 returns-3 : tie.Need-returns-3
-returns-3 c = room-refused (now (c .before .before .before .before .before .before .before .before .before .before .args .img)) (now (c .before .before .before .before .before .before .before .before .before .before .args .items)) (now (c .before .before .before .before .before .before .before .before .before .before .args .places)) (sym (c .before .before .before .before .before .audit .ensures .decides) ∙ not-false (c .before .before .before .before .before .audit .result .ok) (c .before .before .if1 .left)) (c .before .if2 .left) (c .if3 .taken)
+returns-3 c = room-refused (now (c .before .before .before .before .before .before .before .before .before .before .args .img)) (now (c .before .before .before .before .before .before .before .before .before .before .args .items)) (now (c .before .before .before .before .before .before .before .before .before .before .args .places)) (sym (c .before .before .before .before .before .audit .ensures .decides) ∙ not-false (c .before .before .before .before .before .audit .result .ok) (c .before .before .if1 .left)) (c .before .if2 .left) (omega (arith, c .if3 .taken))
 
 apply-all-requires : tie.Need-apply-all-requires
 apply-all-requires c κs =
