@@ -12,6 +12,7 @@ use native.Mathlib.Numerals.{add-one}
 use Rattle.words.specs.Lists.{All}
 use Rattle.words.proofs.Tests.{by-test, eq-of, ne-of, eq-yes, eq-no}
 use Rattle.words.proofs.Written.{sets-append}
+use Rattle.regions.specs.Limits.{itemWidth}
 use Rattle.regions.specs.Numbers.{imageFirst, unless}
 use Rattle.regions.specs.Sets.{Set}
 use Rattle.regions.specs.Items.{Item, item, itemRegion, itemOf, itemsIn, firstItems, itemsOf, batchNo, itemNo, behind, numbersOf, behindAll}
@@ -55,13 +56,13 @@ module _ (w words places : List ℕ) where
   unfolding firstItems
   answers-none = ([], none, refl)
 
-  pub answers-more : (i : ℕ) (v out : List ℕ) (r : Region) (n : ℕ) (u : List ℕ) → AnswersFirst i w words places v out → r ≡ itemRegion (drop (6 * i) words)
-      → Single v (item (getD words (6 * i) 0) (getD words (6 * i + 1) 0) r) n u → AnswersFirst (i + 1) w words places u (set out i n)
+  pub answers-more : (i : ℕ) (v out : List ℕ) (r : Region) (n : ℕ) (u : List ℕ) → AnswersFirst i w words places v out → r ≡ itemRegion (drop (itemWidth * i) words)
+      → Single v (item (getD words (itemWidth * i) 0) (getD words (itemWidth * i + 1) 0) r) n u → AnswersFirst (i + 1) w words places u (set out i n)
   answers-more i v out r n u (ns, m, e) f s =
       let k : i ≡ 0 + length ns = omega (arith, singly-many m, items-many i words) in
-      let t : Single v (itemOf (drop (6 * i) words)) n u = subst (λ j. Single v j n u) (item-at words (6 * i) r f) s in (
+      let t : Single v (itemOf (drop (itemWidth * i) words)) n u = subst (λ j. Single v j n u) (item-at words (itemWidth * i) r f) s in (
         ns ++ n ∷ [],
-        subst (λ is. Singly w is (ns ++ n ∷ []) u) (sym (ap (λ j. firstItems j words) (add-one i) ∙ items-next i words)) (singly-more (itemOf (drop (6 * i) words)) n m t),
+        subst (λ is. Singly w is (ns ++ n ∷ []) u) (sym (ap (λ j. firstItems j words) (add-one i) ∙ items-next i words)) (singly-more (itemOf (drop (itemWidth * i) words)) n m t),
         ap (λ o. set o i n) e ∙ sets-append places 0 i ns (n ∷ []) k,
       )
 
@@ -114,13 +115,13 @@ module _ (w words places : List ℕ) where
   image-refused v = refused-by 1 (λ z. omega (arith, z)) (image-number (valid w) _ v)
 
   module _ (v : valid w ≡ true) where
-    pub form-refused : (length words % 6 ≡ 0 → ⊥) → Batches w words places 12 w places
+    pub form-refused : (length words % itemWidth ≡ 0 → ⊥) → Batches w words places 12 w places
     form-refused h = refused-by 12 (λ z. omega (arith, z)) (own-number (valid w) 12 _ v (batch-form (length words) (length places) h))
 
-    pub room-refused : length words % 6 ≡ 0 → length places < itemsIn words → Batches w words places 13 w places
+    pub room-refused : length words % itemWidth ≡ 0 → length places < itemsIn words → Batches w words places 13 w places
     room-refused e h = refused-by 13 (λ z. omega (arith, z)) (own-number (valid w) 13 _ v (batch-room (length words) (length places) e h))
 
-    pub all-answered : (w′ places′ : List ℕ) → length words % 6 ≡ 0 → itemsIn words ≤ length places → AnswersFirst (itemsIn words) w words places w′ places′ → Batches w words places 0 w′ places′
+    pub all-answered : (w′ places′ : List ℕ) → length words % itemWidth ≡ 0 → itemsIn words ≤ length places → AnswersFirst (itemsIn words) w words places w′ places′ → Batches w words places 0 w′ places′
     all-answered w′ places′ e h a =
         record {
           number-is = own-number (valid w) 0 _ v (sym (done-batch (length words) (length places) (record { whole = e; room = h })));

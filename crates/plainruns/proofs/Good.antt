@@ -14,7 +14,7 @@ use Rattle.words.proofs.Tests.{eq-of, either}
 use Rattle.regions.specs.declared.Region.{Region}
 use Rattle.regions.specs.declared.Seat.{Seat}
 use Rattle.regions.specs.Positions.{account, wellBound, wellFormed}
-use Rattle.regions.specs.Limits.{mostARound}
+use Rattle.regions.specs.Limits.{mostARound, itemWidth}
 use Rattle.regions.specs.Sets.{Set, emptySet, heldBy, shareOf, heldAt, crossed, contradicted, saved, deleted}
 use Rattle.regions.specs.Numbers.{REGION, ACCOUNT, HELD, CROSS, LEVEL, SHARE, ABSENT, SEAT, LIMIT, DESK, FORM, ROOM, unless}
 use Rattle.regions.specs.Calls.{foreign, openSetNo, saveNo, deleteNo, pointNo, boundsNo, joinNo, ancestors, parent, descendants, children, joined}
@@ -189,7 +189,7 @@ fair-join a = fair-first ((ltb 15 a, ACCOUNT) ∷ []) (omega arith)
 
 fair-batch : (words places : ℕ) → Fair (batchNo words places)
 unfolding batchNo
-fair-batch words places = fair-first ((not (eqb (words % 6) 0), FORM) ∷ (ltb places (words / 6), ROOM) ∷ []) (omega arith)
+fair-batch words places = fair-first ((not (eqb (words % itemWidth) 0), FORM) ∷ (ltb places (words / itemWidth), ROOM) ∷ []) (omega arith)
 
 fair-look : (a : ℕ) (o : Look) (s : State) → Fair (looked a o s .number)
 unfolding looked

@@ -12,7 +12,7 @@ use Rattle.words.proofs.Says.{true-so, so-true}
 use Rattle.regions.specs.declared.Region.{Region}
 use Rattle.regions.specs.declared.Seat.{Seat}
 use Rattle.regions.specs.Positions.{account, wellBound, wellFormed}
-use Rattle.regions.specs.Limits.{mostARound}
+use Rattle.regions.specs.Limits.{mostARound, itemWidth}
 use Rattle.regions.specs.Sets.{Set, heldAt, crossed, contradicted, heldBy, shareOf}
 use Rattle.regions.specs.Calls.{foreign, openSetNo, saveNo, deleteNo, pointNo, boundsNo, joinNo}
 use Rattle.regions.specs.Items.{batchNo}
@@ -82,19 +82,19 @@ done-delete S a s m = rw (of-own a s (m .own), m .held)
 
 -- a batch, by the words of its items and the places for its answers
 pub record MayBatch (words places : ℕ) : Type 0 where
-  pub whole : words % 6 ≡ 0
-  pub room : words / 6 ≤ places
+  pub whole : words % itemWidth ≡ 0
+  pub room : words / itemWidth ≤ places
 
 pub batch-done : (words places : ℕ) → batchNo words places ≡ 0 → MayBatch words places
 unfolding batchNo
 batch-done words places e =
-    let u = first-0 (not (eqb (words % 6) 0)) 11 _ e in
-    let v = first-0 (ltb places (words / 6)) 12 _ (u .1) in
+    let u = first-0 (not (eqb (words % itemWidth) 0)) 11 _ e in
+    let v = first-0 (ltb places (words / itemWidth)) 12 _ (u .1) in
     record { whole = eq-of _ _ (not-false _ (u .0)); room = nlt-of _ _ (v .0) }
 
 pub done-batch : (words places : ℕ) → MayBatch words places → batchNo words places ≡ 0
 unfolding batchNo firstNo
-done-batch words places m = rw (eq-yes (words % 6) 0 (m .whole), lt-no places (words / 6) (m .room))
+done-batch words places m = rw (eq-yes (words % itemWidth) 0 (m .whole), lt-no places (words / itemWidth) (m .room))
 
 -- SEARCHES AND THE JOIN
 pub point-done : (a p : ℕ) → pointNo a p ≡ 0 → Own a p

@@ -8,25 +8,26 @@ use lib.Seq.{getD-drop, drop-drop}
 use native.Mathlib.Omega.{arith}
 use Rattle.words.specs.Lists.{firstNo}
 use Rattle.words.proofs.Tests.{eq-yes, eq-no, lt-yes}
+use Rattle.regions.specs.Limits.{itemWidth}
 use Rattle.regions.specs.Items.{item, itemRegion, itemOf, firstItems, batchNo}
 use Rattle.regions.specs.declared.Region.{Region}
 
--- item n comes behind the first n, and stands from word 6 n on
-pub items-next : (n : ℕ) (ws : List ℕ) → firstItems (suc n) ws ≡ firstItems n ws ++ itemOf (drop (6 * n) ws) ∷ []
+-- item n comes behind the first n, and stands behind as many times its width
+pub items-next : (n : ℕ) (ws : List ℕ) → firstItems (suc n) ws ≡ firstItems n ws ++ itemOf (drop (itemWidth * n) ws) ∷ []
 unfolding firstItems
 items-next zero ws = refl
 items-next (suc n) ws =
     ap (itemOf ws ∷_)
-    (items-next n (drop 6 ws)
-    ∙ ap (λ l. firstItems n (drop 6 ws) ++ itemOf l ∷ []) (drop-drop (6 * n) 6 ws ∙ ap (λ k. drop k ws) (sym (six n))))
+    (items-next n (drop itemWidth ws)
+    ∙ ap (λ l. firstItems n (drop itemWidth ws) ++ itemOf l ∷ []) (drop-drop (itemWidth * n) itemWidth ws ∙ ap (λ k. drop k ws) (sym (one-more n))))
   where
-    six : (n : ℕ) → 6 * suc n ≡ 6 + 6 * n
-    six n = omega arith
+    one-more : (n : ℕ) → itemWidth * suc n ≡ itemWidth + itemWidth * n
+    one-more n = omega arith
 
 pub items-many : (n : ℕ) (ws : List ℕ) → length (firstItems n ws) ≡ n
 unfolding firstItems
 items-many zero ws = refl
-items-many (suc n) ws = ap suc (items-many n (drop 6 ws))
+items-many (suc n) ws = ap suc (items-many n (drop itemWidth ws))
 
 -- an item by its words, wherever it stands
 word-at : (ws : List ℕ) (at i : ℕ) → getD ws (at + i) 0 ≡ getD (drop at ws) i 0
@@ -43,10 +44,10 @@ item-at ws at r e =
     ap₂ (λ k a. item k a r) (ap (λ i. getD ws i 0) z ∙ word-at ws at 0) (word-at ws at 1) ∙ ap (item (getD (drop at ws) 0 0) (getD (drop at ws) 1 0)) e
 
 -- the two refusals of a batch
-pub batch-form : (words places : ℕ) → (words % 6 ≡ 0 → ⊥) → 12 ≡ batchNo words places
+pub batch-form : (words places : ℕ) → (words % itemWidth ≡ 0 → ⊥) → 12 ≡ batchNo words places
 unfolding batchNo firstNo
-batch-form words places h = rw (eq-no (words % 6) 0 h)
+batch-form words places h = rw (eq-no (words % itemWidth) 0 h)
 
-pub batch-room : (words places : ℕ) → words % 6 ≡ 0 → places < words / 6 → 13 ≡ batchNo words places
+pub batch-room : (words places : ℕ) → words % itemWidth ≡ 0 → places < words / itemWidth → 13 ≡ batchNo words places
 unfolding batchNo firstNo
-batch-room words places e h = rw (eq-yes (words % 6) 0 e, lt-yes places (words / 6) h)
+batch-room words places e h = rw (eq-yes (words % itemWidth) 0 e, lt-yes places (words / itemWidth) h)
