@@ -1,10 +1,11 @@
 // Decides whether an image is valid, exactly and of any words: its shape, then its regions, then its lists; each part leans on the ones before.
+#![tactic(auto)]
 ghost use Rattle.std.specs.Prelude.{◌≡◌, false};
 ghost use Rattle.image.specs.Valid.{valid};
 ghost use Rattle.audit.specs.Report.{Reports};
 
 // Whether the image is valid; and, where it is, how many regions each account holds, so that a save need not count again.
-#[derive(Drop)]
+#[derive(Clone, Copy)]
 pub struct Report {
     pub ok: bool,
     pub held: [u32; regions::ACCOUNT_COUNT],

@@ -1,9 +1,10 @@
 // Runs the audit on an image and on many changed ones, as standard input has them, and writes a digit for each: 1 for valid, 0 for not.
 // The input is words of four bytes, low byte first: an image of 12,288; the number of cases; for each case the number of its changes, at most 8, and then each
 // change, a place and a word. A case's changes are made, the image is audited, and the words that were there are put back.
+#![tactic(auto)]
 ghost use Rattle.std.specs.Prelude.{◌≤◌};
 
-#[derive(Drop)]
+#[derive(Clone, Copy)]
 pub struct Changes {
     pub places: [u32; 8],
     pub words: [u32; 8],

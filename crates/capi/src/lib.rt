@@ -1,5 +1,6 @@
 // The public calls for programs in C and Rust, in one archive. A slice goes over as a pointer and a number of words, an answer comes back as a struct.
 // Each export hands its arguments on and its answer back, so that its promise is the call's own record.
+#![tactic(auto)]
 ghost use Rattle.index.specs.Opening.{OpensSet};
 ghost use Rattle.index.specs.Changes.{Saves, Deletes};
 ghost use Rattle.index.specs.Batches.{Batches};
@@ -15,7 +16,7 @@ use regions::Region;
 
 // The ancestor search's answer: its number, how many ancestors there are, and the steps it made.
 #[repr(C)]
-#[derive(Drop)]
+#[derive(Clone, Copy)]
 pub struct AncestorsAnswer {
     pub number: u32,
     pub total: usize,
@@ -24,7 +25,7 @@ pub struct AncestorsAnswer {
 
 // The parent search's answer: its number, whether a parent was found, and that region; four zeros where none was.
 #[repr(C)]
-#[derive(Drop)]
+#[derive(Clone, Copy)]
 pub struct ParentAnswer {
     pub number: u32,
     pub found: bool,
@@ -36,7 +37,7 @@ pub struct ParentAnswer {
 
 // A descendant or child search's answer: its number, how many regions were written, and whether more remain.
 #[repr(C)]
-#[derive(Drop)]
+#[derive(Clone, Copy)]
 pub struct ListAnswer {
     pub number: u32,
     pub more: bool,
@@ -45,7 +46,7 @@ pub struct ListAnswer {
 
 // The join's answer: its number, and how many pairs there are.
 #[repr(C)]
-#[derive(Drop)]
+#[derive(Clone, Copy)]
 pub struct JoinAnswer {
     pub number: u32,
     pub total: usize,
@@ -216,7 +217,7 @@ pub extern "C" fn sasnuvarth_join(
 
 // A desk after a call, and the call's number.
 #[repr(C)]
-#[derive(Drop)]
+#[derive(Clone, Copy)]
 pub struct DeskAnswer {
     pub number: u32,
     pub desk: FlatDesk,
@@ -224,7 +225,7 @@ pub struct DeskAnswer {
 
 // A round's answer: its number, the eight counts, and the desk afterwards.
 #[repr(C)]
-#[derive(Drop)]
+#[derive(Clone, Copy)]
 pub struct RoundAnswer {
     pub number: u32,
     pub counts: [u32; regions::SEAT_COUNT],
@@ -233,7 +234,7 @@ pub struct RoundAnswer {
 
 // A part's answer: its number, its first word in the round buffer, and how many words it has.
 #[repr(C)]
-#[derive(Drop)]
+#[derive(Clone, Copy)]
 pub struct PartAnswer {
     pub number: u32,
     pub first: usize,

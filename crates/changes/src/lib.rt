@@ -1,4 +1,5 @@
 // Save and delete on an image that is known to be valid: refused by the call's own tests, and then no word changes, or done.
+#![tactic(auto)]
 ghost use Rattle.std.specs.Prelude.{◌≡◌, ◌<◌, ◌-◌, suc, T, get_or, set};
 ghost use Rattle.regions.specs.Limits.{account_count, most_regions};
 ghost use Rattle.regions.specs.Sets.{held_by};
@@ -59,7 +60,7 @@ fn uncounted(held: [u32; regions::ACCOUNT_COUNT], account: u32) -> [u32; regions
 }
 
 // WHO CHANGES MUCH keeps the counts from one call to the next, so that nothing is tested again: a call's number, and the counts behind it.
-#[derive(Drop)]
+#[derive(Clone, Copy)]
 pub struct Kept {
     pub number: u32,
     pub held: [u32; regions::ACCOUNT_COUNT],

@@ -1,4 +1,5 @@
 // The console of the programs: words from standard input, and numbers and text on standard output.
+#![tactic(auto)]
 ghost use Rattle.std.specs.Prelude.{◌≤◌, length};
 
 use libc::{STDIN_FILENO, STDOUT_FILENO};

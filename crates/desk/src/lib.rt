@@ -1,5 +1,6 @@
 // The desk: eight partner seats lent together as a slice of structs. Each public call takes any slices, tests in its order, and answers its number.
 // What is decided of a seat is decided in functions that take it by value; the calls on the lent slice read, call, store and return.
+#![tactic(auto)]
 ghost use Rattle.std.specs.Prelude.{◌≡◌, ◌&&◌};
 ghost use Rattle.regions.specs.Desk.{desk_fits};
 ghost use Rattle.image.specs.Valid.{valid};
@@ -104,7 +105,7 @@ fn images_valid(outer: &[u32], inner: &[u32]) -> bool
 }
 
 // A round's answer.
-#[derive(Drop)]
+#[derive(Clone, Copy)]
 pub struct Dealt {
     pub number: u32,
     pub counts: [u32; regions::SEAT_COUNT],
@@ -134,7 +135,7 @@ pub fn round(outer: &[u32], inner: &[u32], desk: &mut [Seat], buffer: &mut [u32]
 // THE SAME CALLS, the desk by value: for those who have its eight seats in a local. What is stored is stored in a local of the call and handed back.
 
 // The seats after a call, and its number.
-#[derive(Drop)]
+#[derive(Clone, Copy)]
 pub struct Seated {
     pub seats: [Seat; regions::SEAT_COUNT],
     pub number: u32,
@@ -209,7 +210,7 @@ pub fn close_seat_by_value(seats: [Seat; regions::SEAT_COUNT], i: u32) -> Seated
 }
 
 // The seats after a round, its number and its counts.
-#[derive(Drop)]
+#[derive(Clone, Copy)]
 pub struct Rounded {
     pub seats: [Seat; regions::SEAT_COUNT],
     pub number: u32,

@@ -1,4 +1,5 @@
 // A seat and a desk in plain numbers, as they go over the border to C and Rust and back.
+#![tactic(auto)]
 ghost use Rattle.std.specs.Prelude.{◌≡◌, map};
 ghost use Rattle.regions.specs.Numbers.{unless};
 ghost use Rattle.flat.specs.Numbers.{kind_of, choice_of_number, kind_number, mark_of, seat_of_numbers};
@@ -78,7 +79,7 @@ pub fn seat_of_numbers(
 
 // A seat in numbers. Closed where opened is 0, and then the others mean nothing; without a mark where marked is 0, and then a and d mean nothing.
 #[repr(C)]
-#[derive(Drop)]
+#[derive(Clone, Copy)]
 pub struct FlatSeat {
     pub opened: u32,
     pub account: u32,
@@ -90,7 +91,7 @@ pub struct FlatSeat {
 }
 
 #[repr(C)]
-#[derive(Drop)]
+#[derive(Clone, Copy)]
 pub struct FlatDesk {
     pub seats: [FlatSeat; regions::SEAT_COUNT],
 }

@@ -1,5 +1,6 @@
 // The outer regions that hold a place, by the choice, kept on a stack while the place moves on: made anew by one search, or brought from one place to the next entry by
 // entry.
+#![tactic(auto)]
 ghost use Rattle.std.specs.Prelude.{◌≤◌, ◌≡◌, T, length};
 ghost use Rattle.regions.specs.Limits.{last_account};
 ghost use Rattle.regions.specs.Positions.{lowest, too_late};
@@ -11,7 +12,7 @@ use leaves::{Cursor, Step};
 use regions::{Choice, Mark};
 
 // The outer regions that hold a place, as words beside it: how many, and the cursor at the first that starts too late to hold the place.
-#[derive(Drop)]
+#[derive(Clone, Copy)]
 pub struct Stack {
     pub n: usize,
     pub cur: Cursor,

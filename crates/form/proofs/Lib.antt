@@ -1,4 +1,2 @@
 pub mod Lines
 pub mod Sections
-pub mod Writable
-pub mod Accounts

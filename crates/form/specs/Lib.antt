@@ -1,4 +1,3 @@
 pub mod Form
-pub mod Text
 pub mod Readers
 pub mod Steps

@@ -1,4 +1,5 @@
 // The form of a listing, and the readers of its lines: a section's count, an account with its share, a region. Each line is read from a place of the text, and refused by its form or its numbers.
+#![tactic(auto)]
 ghost use Rattle.std.specs.Prelude.{◌≡◌, ◌≤◌, length};
 ghost use Rattle.form.specs.Form.{Shares};
 ghost use Rattle.form.specs.Readers.{CountRead, ShareRead, RegionRead};
@@ -7,7 +8,7 @@ ghost use Rattle.form.specs.Steps.{Stands, SharesRead};
 use regions::Region;
 
 // A section's count, and the byte behind its line.
-#[derive(Drop)]
+#[derive(Clone, Copy)]
 pub struct Count {
     pub number: u32,
     pub count: usize,
@@ -42,7 +43,7 @@ pub fn read_count(text: &[u8], at: usize, most: u32) -> Count
 }
 
 // A share line, and the byte behind it.
-#[derive(Drop)]
+#[derive(Clone, Copy)]
 pub struct ShareLine {
     pub number: u32,
     pub account: u32,
@@ -89,7 +90,7 @@ fn read_share(text: &[u8], at: usize, from: u32) -> ShareLine
 }
 
 // A region line, and the byte behind it.
-#[derive(Drop)]
+#[derive(Clone, Copy)]
 pub struct RegionLine {
     pub ok: bool,
     pub region: Region,
@@ -116,7 +117,7 @@ pub fn read_region(text: &[u8], at: usize) -> RegionLine
 }
 
 // The shares that a section gave, and where it left off.
-#[derive(Drop)]
+#[derive(Clone, Copy)]
 pub struct Given {
     pub number: u32,
     pub line: usize,

@@ -1,4 +1,5 @@
 // Lists that a merge moves: a key that leaves its page hands its list on to the next key, and one that comes down gives each key left of it what that stabs; what no key stabs is in no list any more.
+#![tactic(auto)]
 ghost use Rattle.std.specs.Prelude.{◌≡◌, map, ◌≤◌, length};
 ghost use Rattle.pages.specs.Layout.{mark_of, fill_of, next_of, image_words};
 ghost use Rattle.image.specs.Read.{record_region, list_places};
@@ -10,7 +11,7 @@ ghost use Rattle.handing.specs.Moves.{Leaving, HandedOn, Sinking, Sank};
 use pages::{KeyWords, Page};
 
 // A page with lists changed, and what is left of the key whose list was handed out.
-#[derive(Drop)]
+#[derive(Clone, Copy)]
 pub struct Handed {
     pub rest: KeyWords,
     pub page: Page,

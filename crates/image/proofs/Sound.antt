@@ -1,7 +1,7 @@
 -- The set that a valid image means has what every set has: its regions ascend, nest, are leveled as they nest and well formed, no account is above its share, and there are at most 500.
 -- So among the ancestors of a position no two have the same level, in every valid image; and with self the region that starts there is one more, the last.
 -- Assumes nothing.
-use Prim.Native.Nat.{ℕ, zero, suc, ◌+◌, ◌<◌, ◌≤◌}
+use Prim.Native.Nat.{ℕ, zero, suc, ◌<◌, ◌≤◌}
 use mathlib.Core.Path.{◌≡◌, ap}
 use mathlib.Core.Bool.{false}
 use mathlib.Core.List.{List, ◌++◌}
@@ -17,10 +17,9 @@ use Rattle.regions.specs.Sets.{Set, of, held_by, share_of, is_at}
 use Rattle.regions.specs.declared.Region.{Region}
 use Rattle.regions.specs.declared.Choice.{Choice}
 use Rattle.regions.specs.declared.Choice.TheVariants.{Strict, WithSelf}
-use Rattle.regions.specs.Calls.{region_words, ancestors, parent}
+use Rattle.regions.specs.Calls.{ancestors, parent}
 use Rattle.regions.specs.Sound.{Wf, Rising, Nesting, Leveling, LevelsDiffer, Sound, OneParentEach, EachWithItself}
-use Rattle.regions.proofs.Rising.{nesting_says, leveling_says}
-use Rattle.regions.proofs.Parted.{few}
+use Rattle.regions.proofs.Rising.{nesting_says, leveling_says, few}
 use Rattle.regions.proofs.Chain.{levels_differ, parent_one}
 use Rattle.regions.proofs.Parents.{one_parent_each}
 use Rattle.regions.proofs.Selves.{with_self, each_with_itself}
@@ -93,17 +92,9 @@ module _ (w : List ℕ) (small : Small w) (v : T (valid w)) where
         shared = leb→le _ 500 f.sums;
       }
 
-  pub sixteen : length (set_of w).shares ≡ 16
+  sixteen : length (set_of w).shares ≡ 16
   unfolding set_of shares_of
   sixteen = simp (length-take, length-drop) (omega (arith, (valid_facts w v).long))
 
-  pub own_accounts : All (λ r. account r.start ≤ 15) (set_of w).regions
-  own_accounts = all_mono {Q = λ r. account r.start ≤ 15} (λ r k. omega arith) (set_of w).regions starts_small
-
   pub at_most_500 : length (set_of w).regions ≤ 500
-  at_most_500 = few (set_of w) valid_sound sixteen own_accounts
-
-  -- all four words of a region
-  pub words_small : All (λ r. All (λ n. n < 4294967296) (region_words r)) (set_of w).regions
-  unfolding set_of
-  words_small = small_regions w small (λ r. All (λ n. n < 4294967296) (region_words r)) (λ p b. (small_page w small p b, (small_page w small p (b + 1), (small_page w small p (b + 2), (small_page w small p (b + 3), tt))))) (depth_of w) (root_of w)
+  at_most_500 = few (set_of w) valid_sound sixteen (all_mono {Q = λ r. account r.start ≤ 15} (λ r k. omega arith) (set_of w).regions starts_small)

@@ -1,4 +1,5 @@
 // What an image holds and what makes it valid stands in specs/, the laws in proofs/. There is no code here but this.
+#![tactic(auto)]
 ghost use Rattle.std.specs.Prelude.{◌≡◌};
 ghost use Rattle.pages.specs.Layout.{image_words};
 

@@ -1,4 +1,5 @@
 // What starts inside given bounds: the entries along the leaves, from the first behind the bounds' start, as many as fit.
+#![tactic(auto)]
 ghost use Rattle.std.specs.Prelude.{◌≡◌, [], ◌∷◌, ◌+◌, ◌/◌, ◌≤◌, max, T, length};
 ghost use Rattle.words.specs.Lists.{filter, some};
 ghost use Rattle.regions.specs.Positions.{inside};
@@ -13,7 +14,7 @@ use leaves::Step;
 use regions::Region;
 
 // Which of the regions inside are asked for: all, those one level below the given one, or those whose level is not above it.
-#[derive(Drop)]
+#[derive(Clone, Copy)]
 pub enum Wanted {
     All,
     Below(u32),
@@ -21,7 +22,7 @@ pub enum Wanted {
 }
 
 // How many regions were written, and whether more remain.
-#[derive(Drop)]
+#[derive(Clone, Copy)]
 pub struct Listing {
     pub count: usize,
     pub more: bool,

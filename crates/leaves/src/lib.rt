@@ -1,4 +1,5 @@
 // The entries of a set in order, along the leaves' links: a cursor by value, whose step hands the entry and the cursor moved on.
+#![tactic(auto)]
 ghost use Rattle.std.specs.Prelude.{◌≡◌, suc, ◌<◌, ◌≤◌, T};
 ghost use Rattle.words.specs.Lists.{filter};
 ghost use Rattle.regions.specs.Positions.{too_late};
@@ -13,20 +14,20 @@ ghost use Rattle.leaves.specs.Faces.{Faces};
 use regions::{Choice, Region};
 
 // A leaf's entry: the region, and whether it stands in a stab list.
-#[derive(Drop)]
+#[derive(Clone, Copy)]
 pub struct Entry {
     pub region: Region,
     pub flag: u32,
 }
 
 // Where a walk along the leaves stands: at entry `at` of a leaf, or at the end, which is leaf 0.
-#[derive(Drop)]
+#[derive(Clone, Copy)]
 pub struct Cursor {
     pub leaf: u32,
     pub at: u32,
 }
 
-#[derive(Drop)]
+#[derive(Clone, Copy)]
 pub enum Step {
     Next(Entry, Cursor),
     End,

@@ -102,61 +102,30 @@ unfolding line_left break_behind
 left_first n [] = line_one n
 left_first n (m ∷ ms) = line_more n m ms
 
--- how long that is: a number's digits and its break, at most eleven bytes
-pub left_all : (k : ℕ) (ns : List ℕ) → 1 ≤ k → 1 ≤ length ns → line_left (take k ns) ≡ line (take k ns)
-unfolding line_left
-left_all zero ns g h = absurd (omega arith)
-left_all (suc k) [] g h = absurd (omega arith)
-left_all (suc k) (n ∷ ns) g h = refl
-
-left_more : (n : ℕ) (ns : List ℕ) → length (line_left (n ∷ ns)) ≡ length (decimal n) + suc (length (line_left ns))
-left_more n ns = ap length (left_first n ns) ∙ length-append (decimal n) _
-
-pub left_few : (ns : List ℕ) → length (line_left ns) ≤ 11 * length ns
-unfolding line_left
-left_few [] = omega arith
-left_few (n ∷ ns) = omega (arith, left_more n ns, left_few ns, decimal_few n)
-
-pub line_few : (ns : List ℕ) → 1 ≤ length ns → length (line ns) ≤ 11 * length ns
-unfolding line_left
-line_few [] h = absurd (omega arith)
-line_few (n ∷ ns) h = left_few (n ∷ ns)
-
-module _ (k : ℕ) (ns : List ℕ) (i : ℕ) (l : i < k) (m : k ≤ length ns) where
-  next : drop i (take k ns) ≡ get_or ns i 0 ∷ drop (i + 1) (take k ns)
-  next = drop-cons (take k ns) i 0 (simp length-take (omega arith)) ∙ ap₂ ◌∷◌ (get_or-take k ns i 0 l) (ap (λ j. drop j (take k ns)) (sym (add-one i)))
-
-  pub left_next : length (line_left (drop i (take k ns))) ≡ length (decimal (get_or ns i 0)) + suc (length (line_left (drop (i + 1) (take k ns))))
-  left_next = ap (λ l. length (line_left l)) next ∙ left_more (get_or ns i 0) (drop (i + 1) (take k ns))
-
-pub left_none : (k : ℕ) (ns : List ℕ) → line_left (drop k (take k ns)) ≡ []
-unfolding line_left
-left_none k ns = ap line_left (drop_of_length-le (take k ns) {i = k} (simp length-take (omega arith)))
-
 pub record Putting (out₀ : List ℕ) (at k : ℕ) (ns out : List ℕ) (place i : ℕ) : Type 0 where
   pub put : sets out place (line_left (drop i (take k ns))) ≡ sets out₀ at (line (take k ns))
   pub ends : place + length (line_left (drop i (take k ns))) ≡ at + length (line (take k ns))
   pub long : length out ≡ length out₀
-  pub room : at + length (line (take k ns)) ≤ length out₀
+  pub room : place + 11 * (k - i) ≤ length out₀
 
-pub putting_first : (out : List ℕ) (at k : ℕ) (ns : List ℕ) → 1 ≤ k → 1 ≤ length ns → at + length (line (take k ns)) ≤ length out → Putting out at k ns out at 0
+pub putting_first : (out : List ℕ) (at k : ℕ) (ns : List ℕ) → 1 ≤ k → 1 ≤ length ns → at + 11 * k ≤ length out → Putting out at k ns out at 0
 unfolding line_left
 putting_first out at zero ns g h r = absurd (omega arith)
 putting_first out at (suc k) [] g h r = absurd (omega arith)
-putting_first out at (suc k) (n ∷ ns) g h r = record { put = refl; ends = refl; long = refl; room = r }
+putting_first out at (suc k) (n ∷ ns) g h r = record { put = refl; ends = refl; long = refl; room = omega arith }
 
 pub putting_last : (out₀ : List ℕ) (at k : ℕ) (ns out : List ℕ) (place : ℕ) → Putting out₀ at k ns out place k → PutsLine out₀ at k ns place out
+unfolding line_left
 putting_last out₀ at k ns out place p =
-    let e = left_none k ns in
+    let e : drop k (take k ns) ≡ [] = drop_of_length-le (take k ns) {i = k} (simp length-take (omega arith)) in
     record {
-      put = ap (λ l. sets out place l) (sym e) ∙ p.put;
-      ends = omega arith ∙ ap (λ l. place + length l) (sym e) ∙ p.ends;
+      put = ap (λ l. sets out place (line_left l)) (sym e) ∙ p.put;
+      ends = omega arith ∙ ap (λ l. place + length (line_left l)) (sym e) ∙ p.ends;
     }
 
 module _ (out₀ : List ℕ) (at k : ℕ) (ns out : List ℕ) (place i : ℕ) (p : Putting out₀ at k ns out place i) (l : i < k) (m : k ≤ length ns) where
-  -- there is room for the number and its break
-  pub putting_fits : place + length (decimal (get_or ns i 0)) < length out
-  putting_fits = omega (arith, left_next k ns i l m, p.ends, p.room, p.long)
+  next : drop i (take k ns) ≡ get_or ns i 0 ∷ drop (i + 1) (take k ns)
+  next = drop-cons (take k ns) i 0 (simp length-take (omega arith)) ∙ ap₂ ◌∷◌ (get_or-take k ns i 0 l) (ap (λ j. drop j (take k ns)) (sym (add-one i)))
 
   behind : length (drop (i + 1) (take k ns)) ≡ k - (i + 1)
   behind = simp (length-drop, length-take) (omega arith)
@@ -167,13 +136,13 @@ module _ (out₀ : List ℕ) (at k : ℕ) (ns out : List ℕ) (place i : ℕ) (p
     long' = ap length f ∙ length-sets out place (decimal n) ∙ p.long
 
     pub putting_room : to < length out'
-    putting_room = omega (arith, g, ap (λ d. length (decimal d)) e, putting_fits, p.long, long')
+    putting_room = let r = p.room in let w = long' in omega (arith, decimal_few n)
 
     pub putting_next : (b : ℕ) → b ≡ break_behind (k - (i + 1)) → Putting out₀ at k ns (set out' to b) (to + 1) (i + 1)
     putting_next b h =
         let rest = drop (i + 1) (take k ns) in
         let whole : line_left (drop i (take k ns)) ≡ decimal n ++ (b ∷ line_left rest) =
-        ap line_left (next k ns i l m)
+        ap line_left next
         ∙ left_first (get_or ns i 0) rest
         ∙ ap₂ (λ d j. decimal d ++ (break_behind j ∷ line_left rest)) (sym e) behind
         ∙ ap (λ c. decimal n ++ (c ∷ line_left rest)) (sym h) in
@@ -185,5 +154,5 @@ module _ (out₀ : List ℕ) (at k : ℕ) (ns out : List ℕ) (place i : ℕ) (p
               ∙ p.put;
           ends = omega (arith, g, ap length whole, length-append (decimal n) (b ∷ line_left rest)) ∙ p.ends;
           long = length-set out' to b ∙ long';
-          room = p.room;
+          room = omega (arith, p.room, decimal_few n);
         }

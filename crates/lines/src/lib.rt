@@ -1,12 +1,13 @@
 // Lines of numbers as text: read from bytes, and put into them.
-ghost use Rattle.std.specs.Prelude.{◌≡◌, false, ◌<◌, ◌≤◌, ◌+◌, length, take, get_or};
+#![tactic(auto)]
+ghost use Rattle.std.specs.Prelude.{◌≡◌, false, ◌<◌, ◌≤◌, ◌+◌, ◌*◌, length, get_or};
 ghost use Rattle.std.proofs.lemmas.List.Edits.{sets};
-ghost use Rattle.lines.specs.Text.{is_digit, decimal, line};
+ghost use Rattle.lines.specs.Text.{is_digit, decimal};
 ghost use Rattle.lines.specs.Reads.{ReadsNumber, ReadsLine, PutsLine};
 ghost use Rattle.lines.specs.Breaks.{break_behind};
 
 // The digits at a place, read as a number: whether they are one, which, and the place behind them.
-#[derive(Drop)]
+#[derive(Clone, Copy)]
 pub struct Number {
     pub ok: bool,
     pub value: u32,
@@ -14,7 +15,7 @@ pub struct Number {
 }
 
 // A line of up to four numbers: whether it is one, its numbers, and where the next line stands.
-#[derive(Drop)]
+#[derive(Clone, Copy)]
 pub struct Line {
     pub ok: bool,
     pub numbers: [u32; 4],
@@ -165,7 +166,7 @@ fn digit(d: u32) -> u8
 
 // Puts a number's digits at a place, the last one first, and answers the place behind them.
 pub fn put_number(out: &mut [u8], at: usize, n: u32) -> usize
-    requires { at + length (decimal n) ≤ length out.old }
+    requires { at + 10 ≤ length out.old }
     ensures { (out.new ≡ sets out.old at (decimal n)) × (result ≡ at + length (decimal n)) × (result ≤ at + 10) }
 {
     let end = at + places(n);
@@ -179,23 +180,9 @@ pub fn put_number(out: &mut [u8], at: usize, n: u32) -> usize
     end
 }
 
-// How many bytes the line of the first k numbers takes: each number's digits, and a break behind them.
-pub fn line_length(numbers: [u32; 4], k: usize) -> usize
-    requires { (1 ≤ k) × (k ≤ 4) }
-    ensures { result ≡ length (line (take k numbers)) }
-{
-    let mut n: usize = 0;
-    let mut i: usize = 0;
-    while i < k {
-        n += places(numbers[i]) + 1;
-        i += 1;
-    }
-    n
-}
-
 // Puts the line of the first k numbers at a place, and answers the place behind it.
 pub fn put_line(out: &mut [u8], at: usize, numbers: [u32; 4], k: usize) -> usize
-    requires { (1 ≤ k) × (k ≤ 4) × (at + length (line (take k numbers)) ≤ length out.old) }
+    requires { (1 ≤ k) × (k ≤ 4) × (at + 11 * k ≤ length out.old) }
     ensures { PutsLine out.old at k numbers result out.new }
 {
     let mut place = at;

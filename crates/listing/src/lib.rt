@@ -1,4 +1,5 @@
-// Reads a listing into two lent images, line by line, the first refusal with its line; and writes the listing of two images into a lent buffer.
+// Reads a listing into two lent images: line by line, the first refusal with its line.
+#![tactic(auto)]
 ghost use Rattle.std.specs.Prelude.{◌≤◌, ◌≡◌, [], T, length};
 ghost use Rattle.pages.specs.Layout.{image_words};
 ghost use Rattle.image.specs.Read.{set_of};
@@ -6,18 +7,17 @@ ghost use Rattle.image.specs.Valid.{valid};
 ghost use Rattle.changes.specs.Counts.{Counted};
 ghost use Rattle.form.specs.Steps.{Stands};
 ghost use Rattle.listing.specs.Promise.{ReadsListing};
-ghost use Rattle.listing.specs.Writes.{WritesListing};
 ghost use Rattle.listing.specs.Steps.{Takes, RegionsRead, SetRead};
 
 // A refusal's number and line; 0 and 0 where the listing was read.
-#[derive(Drop)]
+#[derive(Clone, Copy)]
 pub struct Heard {
     pub number: u32,
     pub line: usize,
 }
 
 // Where a section left off: the next line's number and first byte; or, where the number is not 0, the refusal's line.
-#[derive(Drop)]
+#[derive(Clone, Copy)]
 pub struct Stand {
     pub number: u32,
     pub line: usize,
@@ -35,7 +35,7 @@ fn refused_at(number: u32, line: usize) -> Stand
 }
 
 // One region line: its number, and the counts with the saved region's.
-#[derive(Drop)]
+#[derive(Clone, Copy)]
 pub struct Taken {
     pub number: u32,
     pub next: usize,
@@ -173,42 +173,4 @@ pub fn read_listing(text: &[u8], outer: &mut [u32], inner: &mut [u32]) -> Heard
     copy_words(&first, outer);
     copy_words(&second, inner);
     told(0, 0)
-}
-
-// What writing comes to: its number, and how many bytes were written.
-#[derive(Drop)]
-pub struct Written {
-    pub number: u32,
-    pub length: usize,
-}
-
-fn none_written(number: u32) -> Written
-    ensures { (result.number ≡ number) × (result.length ≡ 0) }
-{
-    Written { number, length: 0 }
-}
-
-// WRITES THE LISTING of two images into a lent buffer. It is measured before its first byte is written, since a refusal may change none.
-pub fn write_listing(outer: &[u32], inner: &[u32], out: &mut [u8]) -> Written
-    ensures { WritesListing outer.now inner.now out.old result.number result.length out.new }
-{
-    let x = audit::audit(outer);
-    if !x.ok {
-        return none_written(regions::IMAGE);
-    }
-    let y = audit::audit(inner);
-    if !y.ok {
-        return none_written(regions::IMAGE);
-    }
-    let outer_held = x.held;
-    let inner_held = y.held;
-    let a = writing::held_by_all(outer_held);
-    let b = writing::held_by_all(inner_held);
-    if out.len() < writing::put_sets(outer, a, inner, b, out, true) {
-        return none_written(regions::ROOM);
-    }
-    Written {
-        number: 0,
-        length: writing::put_sets(outer, a, inner, b, out, false),
-    }
 }

@@ -1,11 +1,12 @@
 // Which key of a path owns a region: the first on the way down, from the root, that stabs it. Its record stands in that key's list.
+#![tactic(auto)]
 ghost use Rattle.std.specs.Prelude.{◌≡◌, ◌≤◌, take};
 ghost use Rattle.words.specs.Lists.{All};
 ghost use Rattle.pages.specs.Layout.{page_of, fill_of};
 ghost use Rattle.owners.specs.Owners.{below_in, owns_at, owner_along};
 
 // Where a region's owner stands: key number `key` of page `page`; flag 0 where no key on the path owns the region.
-#[derive(Drop)]
+#[derive(Clone, Copy)]
 pub struct Spot {
     pub flag: u32,
     pub page: u32,

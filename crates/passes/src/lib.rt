@@ -1,10 +1,11 @@
 // How far the walk over an image's pages has come, by value: one page, leaf, start or key after the other.
+#![tactic(auto)]
 ghost use Rattle.std.specs.Prelude.{◌≡◌, ◌<◌};
 ghost use Rattle.passes.specs.Run.{wrong, step_page, step_leaf, step_code, finished};
 
 // How far a pass has come: `link` is the place that the leaf before leads to plus 1 (0 before the first leaf), `low` the least code that may come
 // next, `left` the number of pages in use that are still to come.
-#[derive(Drop)]
+#[derive(Clone, Copy)]
 pub struct Passed {
     pub ok: bool,
     pub link: usize,

@@ -27,12 +27,11 @@ use Rattle.regions.proofs.Local.{crossed_local, contradicted_local, ancestors_lo
 use Rattle.regions.specs.Sound.{Ascending}
 use Rattle.regions.proofs.Joined.{joined_ascends, past_drop}
 use Rattle.regions.proofs.Seats.{limit_small, handed_long, handed_fits, poured_long, poured_in, poured_out}
-use Rattle.plainruns.specs.Calls.{Which, State, set_of, Look, Call, Shown, Answer, says, refuses, lists, pages, finds, joins, dealt, hands_back, looked, asked, answer, behind_round, next, Step, Done, Run, calls_of, Opened, share_given, by_account, left_out, reads, shows_all, Same, Agree, left, Served, Passed}
+use Rattle.plainruns.specs.Calls.{Which, State, set_of, Look, Call, Shown, Answer, says, refuses, lists, pages, finds, joins, dealt, hands_back, looked, answer, behind_round, next, Step, Done, Run, calls_of, Opened, share_given, by_account, left_out, reads, Same, Agree, left, Served, Passed}
 use Rattle.plainruns.specs.Calls.Which.{outer, inner}
 use Rattle.plainruns.specs.Calls.Look.{ancestor_search, parent_search, descendant_search, child_search, join, no_item}
-use Rattle.plainruns.specs.Calls.Call.{save, delete, look, round, open_seat, close_seat, ask_part, ask_part_no, aside}
+use Rattle.plainruns.specs.Calls.Call.{save, delete, look, round, open_seat, close_seat, ask_part, ask_part_no, no_batch}
 use Rattle.plainruns.specs.Calls.Run.{none, then}
-use Rattle.plainruns.specs.Calls.Aside.{write_listing, no_batch}
 use Rattle.plainruns.specs.Calls.Agree.{ended, without, together}
 use Rattle.plainruns.proofs.Good.{Good, good_set, good_next, good_opened, good_reached, share_given_lem, seat_fits_lem, round_answer, round_leaves}
 use Rattle.plainruns.proofs.Relate.{sees_of, Apart, Rel, skip, joined_same, desk_words, alike_reads, save_same, delete_same, open_same, close_same, part_same, hands_same, words_same, keep}
@@ -175,21 +174,20 @@ module _ (so si : List ℕ) (A : ℕ) (s s' : State) (g : Good so si s) (g' : Go
         words = λ k h. refl;
       }
 
-  pub same_answer : (c : Call) → by_account A c ≡ false → shows_all c ≡ false → Same A s c (answer c s) (answer c s')
-  unfolding answer asked shows_all part
-  same_answer (save w a q) h u = same_refl A s _ _ _ (ap says (save_same so si A s s' g g' r w a q (ne_of a A h)))
-  same_answer (delete w a p) h u = same_refl A s _ _ _ (ap says (delete_same so si A s s' g g' r w a p (ne_of a A h)))
-  same_answer (look a o) h u = same_refl A s _ _ _ (look_same a o (ne_of a A h))
-  same_answer (round x y) h u = subst₂ (λ u v. Same A s (round x y) u v) (sym (round_answer so si s x y g)) (sym (round_answer so si s' x y g')) (round_same x y)
-  same_answer (open_seat i a k l) h u = same_refl A s _ _ _ (ap says (open_same so si A s s' g g' r i a l))
-  same_answer (close_seat i) h u = same_refl A s _ _ _ (ap says (close_same so si A s s' g g' r i))
-  same_answer (ask_part i n) h u =
+  pub same_answer : (c : Call) → by_account A c ≡ false → Same A s c (answer c s) (answer c s')
+  unfolding answer part
+  same_answer (save w a q) h = same_refl A s _ _ _ (ap says (save_same so si A s s' g g' r w a q (ne_of a A h)))
+  same_answer (delete w a p) h = same_refl A s _ _ _ (ap says (delete_same so si A s s' g g' r w a p (ne_of a A h)))
+  same_answer (look a o) h = same_refl A s _ _ _ (look_same a o (ne_of a A h))
+  same_answer (round x y) h = subst₂ (λ u v. Same A s (round x y) u v) (sym (round_answer so si s x y g)) (sym (round_answer so si s' x y g')) (round_same x y)
+  same_answer (open_seat i a k l) h = same_refl A s _ _ _ (ap says (open_same so si A s s' g g' r i a l))
+  same_answer (close_seat i) h = same_refl A s _ _ _ (ap says (close_same so si A s s' g g' r i))
+  same_answer (ask_part i n) h =
       both_cond (λ u v. Same A s (ask_part i n) (hands_back u) (hands_back v)) (eqb (part_no s.desk s.buffer i n) 0) (eqb (part_no s'.desk s'.buffer i n) 0)
       (cut i n s.buffer) [] (cut i n s'.buffer) [] (ap (λ z. eqb z 0) (part_same so si A s s' g g' r i n)) (λ e e'. part_words_lem i n (eq_of _ _ e))
       (same_refl A s (ask_part i n) (hands_back []) (hands_back []) refl)
-  same_answer (ask_part_no i n) h u = same_refl A s _ _ _ (ap says (part_same so si A s s' g g' r i n))
-  same_answer (aside (write_listing x y out)) h u = absurd (true≢false u)
-  same_answer (aside (no_batch w ws places)) h u = same_refl A s _ _ _ refl
+  same_answer (ask_part_no i n) h = same_refl A s _ _ _ (ap says (part_same so si A s s' g g' r i n))
+  same_answer (no_batch w ws places) h = same_refl A s _ _ _ refl
 
 -- THE TWO RUNS
 rel_opened : (A : ℕ) (so si : List ℕ) (s s' : State) → Opened so si s → Opened so si s' → Rel A s s'
@@ -238,12 +236,12 @@ related A so si {s₀} {s} {s₀'} {s'} {ds} {es} o run o' run' e =
     subst₂ (Rel A) (sym (run_after run)) (sym (run_after run' ∙ ap (λ cs. after cs s₀') (sym e)))
     (relate so si A (calls_of ds) s₀ s₀' (good_opened so si s₀ o) (good_opened so si s₀' o') (rel_opened A so si s₀ s₀' o o'))
 
--- (c) at any point: behind a history and behind the same with A's calls left out, every call that is not A's, and does not show all accounts, is answered alike
+-- (c) at any point: behind a history and behind the same with A's calls left out, every call that is not A's is answered alike
 pub theorem_c : (A : ℕ) (so si : List ℕ) {s₀ s t s₀' s' t' : State} {ds es : List Done} {x x' : Answer} → Opened so si s₀ → Run s₀ ds s → Opened so si s₀' → Run s₀' es s'
-    → left_out A (calls_of ds) ≡ calls_of es → (c : Call) → by_account A c ≡ false → shows_all c ≡ false → Step s c x t → Step s' c x' t' → Same A s c x.shown x'.shown
-theorem_c A so si {s = s} {s' = s'} o run o' run' e c h u st st' =
+    → left_out A (calls_of ds) ≡ calls_of es → (c : Call) → by_account A c ≡ false → Step s c x t → Step s' c x' t' → Same A s c x.shown x'.shown
+theorem_c A so si {s = s} {s' = s'} o run o' run' e c h st st' =
     subst₂ (Same A s c) (sym st.answers) (sym st'.answers)
-    (same_answer so si A s s' (good_reached so si o run) (good_reached so si o' run') (related A so si o run o' run' e) c h u)
+    (same_answer so si A s s' (good_reached so si o run) (good_reached so si o' run') (related A so si o run o' run' e) c h)
 
 -- what is excepted is the same in both runs: the same seats read A, and of an open seat that does not, a round has written a word since its opening in
 -- the one run exactly where in the other
@@ -283,7 +281,7 @@ agree so si A {s} {s' = s'} (then {d = d} {ds = ds} st run) (then {d = d'} st' r
     (λ h.
     let q = sym (out_no A d.call (calls_of ds) h) ∙ e in
     let c : d.call ≡ d'.call = ap (λ l. head_or d.call l) q in
-    together h c (λ u. subst₂ (Same A s d.call) (sym st.answers) (sym (st'.answers ∙ ap (λ f. answer f s') (sym c))) (same_answer so si A s s' g g' r d.call h u))
+    together h c (subst₂ (Same A s d.call) (sym st.answers) (sym (st'.answers ∙ ap (λ f. answer f s') (sym c))) (same_answer so si A s s' g g' r d.call h))
     (rw st.leaves at
     (agree so si A run run' (ap tail q) (rw st.leaves (good_next so si d.call s g)) (rw st'.leaves (good_next so si d'.call s' g'))
     (rw (st.leaves, st'.leaves, ← c) (keep so si A s s' g g' r d.call h)))))

@@ -14,11 +14,10 @@ use Rattle.regions.specs.Numbers.{DONE, REGION, ACCOUNT, HELD, CROSS, FORM, ROOM
 use Rattle.regions.specs.Calls.{foreign, open_set_no, save_no, delete_no, choice_of, level_fits, pairs_with, pairs_of, joined}
 use Rattle.regions.specs.Items.{batch_no}
 use Rattle.regions.specs.Desk.{later, is_past, mark_behind, mark_fits, state_fits, desk_fits, buffer_fits, state_open, state_limit, open_seat_no, state_handed, state_turned, poured, round_no, part_no, part, closed}
-use Rattle.plainruns.specs.Calls.{State, Call, Shown, looked, asked, answer, next, Opened}
+use Rattle.plainruns.specs.Calls.{State, Call, Shown, looked, answer, next, Opened}
 use Rattle.plainruns.specs.Calls.Which.{outer, inner}
 use Rattle.plainruns.specs.Calls.Look.{no_item}
-use Rattle.plainruns.specs.Calls.Aside.{no_batch}
-use Rattle.plainruns.specs.Calls.Call.{save, delete, look, round, open_seat, ask_part, aside}
+use Rattle.plainruns.specs.Calls.Call.{save, delete, look, round, open_seat, ask_part, no_batch}
 use Rattle.plainruns.proofs.Demand.{after}
 
 abbrev region : ℕ → ℕ → ℕ → ℕ → Region
@@ -84,8 +83,8 @@ unfolding answers answer next filter some first_no well_bound well_formed ends_b
 refusals = refl
 
 -- an item that is neither save nor delete; batches of seven words, and of two items with one place, which stays
-neither : map {B = ℕ × List ℕ} (λ (x : Shown). (x.number, x.words)) (answers (look 0 (no_item outer 2) ∷ aside (no_batch outer (replicate 7 0) []) ∷ aside (no_batch outer (replicate 12 0) (9 ∷ [])) ∷ []) start) ≡ (FORM, []) ∷ (FORM, []) ∷ (ROOM, 9 ∷ []) ∷ []
-unfolding answers looked asked answer next first_no batch_no
+neither : map {B = ℕ × List ℕ} (λ (x : Shown). (x.number, x.words)) (answers (look 0 (no_item outer 2) ∷ no_batch outer (replicate 7 0) [] ∷ no_batch outer (replicate 12 0) (9 ∷ []) ∷ []) start) ≡ (FORM, []) ∷ (FORM, []) ∷ (ROOM, 9 ∷ []) ∷ []
+unfolding answers looked answer next first_no batch_no
 neither = refl
 
 -- eight pairs, and a seat at limit 3

@@ -19,18 +19,16 @@ use Rattle.regions.specs.Sets.{Set, empty_set, held_by, share_of, held_at, cross
 use Rattle.regions.specs.Numbers.{REGION, ACCOUNT, HELD, CROSS, LEVEL, SHARE, ABSENT, SEAT, LIMIT, DESK, FORM, ROOM, unless}
 use Rattle.regions.specs.Calls.{foreign, open_set_no, save_no, delete_no, point_no, bounds_no, join_no, ancestors, parent, descendants, children, joined}
 use Rattle.regions.specs.Items.{batch_no}
-use Rattle.form.specs.Text.{text_of, write_no}
 use Rattle.regions.specs.Desk.{seat_fits, desk_fits, buffer_fits, is_open, limit_of, closed, opened, seat_at, open_seat_no, close_seat_no, handed_words, round_no, part_no}
 use Rattle.words.proofs.Listed.{first_no_lem}
 use Rattle.regions.proofs.Done.{DeskOk, fits_desk, fits_buffer, open_set_done, save_done, open_seat_done, done_round}
 use Rattle.regions.specs.Sound.{Sound}
 use Rattle.regions.proofs.Rising.{empty_sound, saved_sound, deleted_sound, saved_all, deleted_all}
 use Rattle.regions.proofs.Seats.{opened_fits, closed_fits, seats_each, each_seats, desk_turned, poured_long}
-use Rattle.plainruns.specs.Calls.{Which, State, set_of, with_set, with_desk, Look, Aside, Call, Shown, Answer, says, refuses, lists, pages, finds, joins, writes, dealt, looked, asked, answer, noted, behind_round, next, Step, Done, Run, Opened, share_given, shares_given, Fair}
+use Rattle.plainruns.specs.Calls.{Which, State, set_of, with_set, with_desk, Look, Call, Shown, Answer, says, refuses, lists, pages, finds, joins, dealt, looked, answer, noted, behind_round, next, Step, Done, Run, Opened, share_given, shares_given, Fair}
 use Rattle.plainruns.specs.Calls.Which.{outer, inner}
 use Rattle.plainruns.specs.Calls.Look.{ancestor_search, parent_search, descendant_search, child_search, join, no_item}
-use Rattle.plainruns.specs.Calls.Aside.{write_listing, no_batch}
-use Rattle.plainruns.specs.Calls.Call.{save, delete, look, round, open_seat, close_seat, ask_part, ask_part_no, aside}
+use Rattle.plainruns.specs.Calls.Call.{save, delete, look, round, open_seat, close_seat, ask_part, ask_part_no, no_batch}
 use Rattle.plainruns.specs.Calls.Run.{none, then}
 
 -- LISTS
@@ -120,7 +118,7 @@ module _ (so si : List ℕ) where
       either (Good so si) (eqb (close_seat_no s.desk i) 0) _ s (λ e. good_desk _ _ _ s (seat_set s.desk i closed closed_fits g.desk_good) g.words g.notes g) (λ e. g)
   good_next (ask_part i n) s g = g
   good_next (ask_part_no i n) s g = g
-  good_next (aside q) s g = g
+  good_next (no_batch w ws places) s g = g
 
   empty_good : (shares : List ℕ) (S : Set) → S ≡ empty_set shares → open_set_no shares ≡ 0 → GoodSet shares S
   empty_good shares S e d = rw e (record { given = refl; sound = empty_sound shares (open_set_done shares d); ranged = tt })
@@ -193,17 +191,6 @@ fair_batch : (words places : ℕ) → Fair (batch_no words places)
 unfolding batch_no
 fair_batch words places = fair_first ((not (eqb (words % item_width) 0), FORM) ∷ (ltb places (words / item_width), ROOM) ∷ []) (omega arith)
 
-fair_write : (text out : List ℕ) → Fair (write_no text out)
-unfolding write_no
-fair_write text out = fair_first ((ltb (length out) (length text), ROOM) ∷ []) (omega arith)
-
-fair_aside : (q : Aside) (s : State) → Fair (asked q s).number
-unfolding asked
-fair_aside (write_listing x y out) s =
-    let text = text_of (set_of x s) (set_of y s) in
-    fair_unless (write_no text out) (writes out text) (refuses (write_no text out) out) (fair_write text out) refl refl
-fair_aside (no_batch w ws places) s = fair_batch (length ws) (length places)
-
 fair_look : (a : ℕ) (o : Look) (s : State) → Fair (looked a o s).number
 unfolding looked
 fair_look a (ancestor_search w p ch out) s = fair_unless (point_no a p) (lists out (ancestors ch p (set_of w s))) (refuses (point_no a p) out) (fair_point a p) refl refl
@@ -236,7 +223,7 @@ fair so si (ask_part i n) s g = omega arith
 fair so si (ask_part_no i n) s g =
     rw (desk_fits_lem so si s g, buffer_fits_lem so si s g, first_no_lem false DESK _ refl)
     (fair_first ((ltb 7 i || not (is_open (seat_at s.desk i)), SEAT) ∷ (ltb (limit_of (seat_at s.desk i)) n, LIMIT) ∷ []) (omega arith))
-fair so si (aside q) s g = fair_aside q s
+fair so si (no_batch w ws places) s g = fair_batch (length ws) (length places)
 
 pub never : (so si : List ℕ) {s₀ s t : State} {ds : List Done} (c : Call) {x : Answer} → Opened so si s₀ → Run s₀ ds s → Step s c x t → Fair x.shown.number
 never so si {s = s} c o r st = rw st.answers (fair so si c s (good_reached so si o r))

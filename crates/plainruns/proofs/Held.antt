@@ -22,12 +22,11 @@ use Rattle.words.proofs.Says.{true_so, so_true, so_false}
 use Rattle.regions.proofs.Means.{at_says}
 use Rattle.regions.proofs.Done.{save_done, open_seat_done}
 use Rattle.regions.specs.Sound.{Rising, Sound}
-use Rattle.regions.proofs.Rising.{free_sides}
-use Rattle.regions.proofs.Parted.{few}
+use Rattle.regions.proofs.Rising.{free_sides, few}
 use Rattle.regions.proofs.Seats.{handed_long, poured_in, poured_out}
 use Rattle.plainruns.specs.Calls.{Which, State, set_of, with_set, with_desk, Call, Shown, answer, is_written, noted, next, Done, Run, Opened}
 use Rattle.plainruns.specs.Calls.Which.{outer, inner}
-use Rattle.plainruns.specs.Calls.Call.{save, delete, look, round, open_seat, close_seat, ask_part, ask_part_no, aside}
+use Rattle.plainruns.specs.Calls.Call.{save, delete, look, round, open_seat, close_seat, ask_part, ask_part_no, no_batch}
 use Rattle.plainruns.specs.Calls.Run.{none, then}
 use Rattle.plainruns.specs.Held.{is_which, is_done, is_about, decides, brought_by, held_from, Stands, opens_seat, is_round, wrote_from}
 use Rattle.plainruns.proofs.Good.{Good, good_set, good_next, good_opened, good_reached, round_answer, round_leaves}
@@ -122,7 +121,7 @@ held_next so si w p (close_seat i) s g =
     ∙ same_then w p (close_seat i) s _ refl
 held_next so si w p (ask_part i n) s g = same_then w p (ask_part i n) s _ refl
 held_next so si w p (ask_part_no i n) s g = same_then w p (ask_part_no i n) s _ refl
-held_next so si w p (aside q) s g = same_then w p (aside q) s _ refl
+held_next so si w p (no_batch v ws places) s g = same_then w p (no_batch v ws places) s _ refl
 
 -- BEHIND A RUN
 held_run : (so si : List ℕ) (w : Which) (p : ℕ) {s t : State} {ds : List Done} → Run s ds t → Good so si s
@@ -187,7 +186,7 @@ brought_save w r (open_seat i a k l) h e = absurd (cons_not r [] e)
 brought_save w r (close_seat i) h e = absurd (cons_not r [] e)
 brought_save w r (ask_part i n) h e = absurd (cons_not r [] e)
 brought_save w r (ask_part_no i n) h e = absurd (cons_not r [] e)
-brought_save w r (aside q) h e = absurd (cons_not r [] e)
+brought_save w r (no_batch v ws places) h e = absurd (cons_not r [] e)
 
 stands_later : (w : Which) (r : Region) (d : Done) (ds : List Done) → Stands w r ds → Stands w r (d ∷ ds)
 stands_later w r d ds h =
@@ -329,7 +328,7 @@ note_next so si i k low l (close_seat j) s g =
     ∙ note_still i k (close_seat j) s _ refl refl
 note_next so si i k low l (ask_part j n) s g = note_still i k (ask_part j n) s _ refl refl
 note_next so si i k low l (ask_part_no j n) s g = note_still i k (ask_part_no j n) s _ refl refl
-note_next so si i k low l (aside q) s g = note_still i k (aside q) s _ refl refl
+note_next so si i k low l (no_batch v ws places) s g = note_still i k (no_batch v ws places) s _ refl refl
 
 note_run : (so si : List ℕ) (i k : ℕ) → i < 8 → k < 128 → {s t : State} {ds : List Done} → Run s ds t → Good so si s
     → get_or t.wrote (128 * i + k) false ≡ wrote_from i k (get_or s.wrote (128 * i + k) false) ds

@@ -30,7 +30,7 @@ use Rattle.regions.proofs.Joined.{Lex, later_says, later_trans, then_apart, then
 use Rattle.plainruns.specs.Calls.{Which, State, set_of, with_set, with_desk, Look, Call, Shown, Answer, says, refuses, lists, pages, finds, joins, looked, answer, behind_open, next, Step, Done, Run, calls_of, Opened, left, moved}
 use Rattle.plainruns.specs.Calls.Which.{outer, inner}
 use Rattle.plainruns.specs.Calls.Look.{ancestor_search, parent_search, descendant_search, child_search, join, no_item}
-use Rattle.plainruns.specs.Calls.Call.{save, delete, look, round, open_seat, close_seat, ask_part, ask_part_no, aside}
+use Rattle.plainruns.specs.Calls.Call.{save, delete, look, round, open_seat, close_seat, ask_part, ask_part_no, no_batch}
 use Rattle.plainruns.specs.Calls.Run.{none, then}
 use Rattle.plainruns.specs.Held.{is_which, is_round}
 use Rattle.plainruns.specs.Long.{is_pair, reaches, keeps_open, Kept, is_over, Over, handed_by, handed_in, told_to, rounds_in, touches, Quiet}
@@ -71,7 +71,7 @@ module _ (so si : List ℕ) (i : ℕ) where
       ∙ moved_none o
   seat_after o (ask_part j n) s g e h = e ∙ moved_none o
   seat_after o (ask_part_no j n) s g e h = e ∙ moved_none o
-  seat_after o (aside q) s g e h = e ∙ moved_none o
+  seat_after o (no_batch v ws places) s g e h = e ∙ moved_none o
 
   seat_by : (o : Open) (cs : List Call) (s : State) → Good so si s → seat_at s.desk i ≡ open_at o → Kept i cs
       → seat_at (after cs s).desk i ≡ open_at (moved o (handed_in i cs s))
@@ -98,7 +98,7 @@ module _ (so si : List ℕ) (i : ℕ) where
   handed_ascends o (close_seat j) s g e = (tt, tt)
   handed_ascends o (ask_part j n) s g e = (tt, tt)
   handed_ascends o (ask_part_no j n) s g e = (tt, tt)
-  handed_ascends o (aside q) s g e = (tt, tt)
+  handed_ascends o (no_batch v ws places) s g e = (tt, tt)
 
 past_trans : (m : Mark) (p r : Pair) → is_past m p ≡ true → Then p r → is_past m r ≡ true
 unfolding is_past
@@ -219,7 +219,7 @@ refused_stays (open_seat j b k l) s a h n = absurd (false≢true h)
 refused_stays (close_seat j) s a h n = absurd (false≢true h)
 refused_stays (ask_part j l) s a h n = refl
 refused_stays (ask_part_no j l) s a h n = refl
-refused_stays (aside q) s a h n = refl
+refused_stays (no_batch v ws places) s a h n = refl
 
 only_with : (a : ℕ) (w v : Which) (S : Set) (s : State) → only a S ≡ only a (set_of w s) → only a (set_of v (with_set w S s)) ≡ only a (set_of v s)
 only_with a outer outer S s e = e
@@ -246,7 +246,7 @@ other_stays (open_seat j b k l) s a v h = either (λ t. only a (set_of v t) ≡ 
 other_stays (close_seat j) s a v h = either (λ t. only a (set_of v t) ≡ only a (set_of v s)) (eqb (close_seat_no s.desk j) 0) _ s (λ e. only_desk a v _ _ _ s) (λ e. refl)
 other_stays (ask_part j n) s a v h = refl
 other_stays (ask_part_no j n) s a v h = refl
-other_stays (aside q) s a v h = refl
+other_stays (no_batch w ws places) s a v h = refl
 
 quiet_stays : (c : Call) (s : State) (a : ℕ) (v : Which) → (touches a c ≡ true → (answer c s).number ≡ 0 → ⊥) → only a (set_of v (next c s)) ≡ only a (set_of v s)
 quiet_stays c s a v h = by_test (touches a c) (λ e. ap (λ t. only a (set_of v t)) (refused_stays c s a e (h e))) (λ e. other_stays c s a v e)
@@ -266,7 +266,7 @@ no_round i (open_seat j b k l) s h = refl
 no_round i (close_seat j) s h = refl
 no_round i (ask_part j n) s h = refl
 no_round i (ask_part_no j n) s h = refl
-no_round i (aside q) s h = refl
+no_round i (no_batch v ws places) s h = refl
 
 round_hands : (i : ℕ) (x y : Which) (o : Open) (c : Call) (s : State) → is_round c ≡ true → is_over x y c ≡ true → seat_at s.desk i ≡ open_at o
     → handed_by i c s ≡ take o.limit (left (set_of x s) (set_of y s) o)
@@ -281,7 +281,7 @@ round_hands i x y o (open_seat j b q l) s z h e = absurd (false≢true z)
 round_hands i x y o (close_seat j) s z h e = absurd (false≢true z)
 round_hands i x y o (ask_part j q) s z h e = absurd (false≢true z)
 round_hands i x y o (ask_part_no j q) s z h e = absurd (false≢true z)
-round_hands i x y o (aside q) s z h e = absurd (false≢true z)
+round_hands i x y o (no_batch v ws places) s z h e = absurd (false≢true z)
 
 stays_put : (m : Mark) (n : ℕ) (L : List Pair) → take n (past (mark_behind m []) L) ≡ take n (past m L)
 unfolding mark_behind
@@ -334,7 +334,7 @@ tells so si i (open_seat j b k l) s g = refl
 tells so si i (close_seat j) s g = refl
 tells so si i (ask_part j n) s g = refl
 tells so si i (ask_part_no j n) s g = refl
-tells so si i (aside q) s g = refl
+tells so si i (no_batch v ws places) s g = refl
 
 told_words : (so si : List ℕ) (i : ℕ) {s t : State} {ds : List Done} → Run s ds t → Good so si s → flat_map (told_to i) ds ≡ flat_map pair_words (handed_in i (calls_of ds) s)
 unfolding flat_map

@@ -28,7 +28,7 @@ use Rattle.regions.proofs.Local.{save_local, delete_local, joined_local, saved_o
 use Rattle.regions.proofs.Seats.{seats_each, handed_fits, poured_in, poured_out}
 use Rattle.plainruns.specs.Calls.{Which, State, set_of, with_set, with_desk, Call, is_written, noted, behind_round, unnoted, behind_open, behind_close, next, by_account, state_reads, reads}
 use Rattle.plainruns.specs.Calls.Which.{outer, inner}
-use Rattle.plainruns.specs.Calls.Call.{save, delete, look, round, open_seat, close_seat, ask_part, ask_part_no, aside}
+use Rattle.plainruns.specs.Calls.Call.{save, delete, look, round, open_seat, close_seat, ask_part, ask_part_no, no_batch}
 use Rattle.plainruns.proofs.Good.{Good, good_set, desk_fits_lem, buffer_fits_lem, round_0}
 
 -- TWO SEATS that differ at most in their mark, and then read A
@@ -142,7 +142,7 @@ skip A s s' (open_seat i a j l) h k = absurd (false≢true h)
 skip A s s' (close_seat i) h k = absurd (false≢true h)
 skip A s s' (ask_part i n) h k = absurd (false≢true h)
 skip A s s' (ask_part_no i n) h k = absurd (false≢true h)
-skip A s s' (aside q) h k = absurd (false≢true h)
+skip A s s' (no_batch w ws places) h k = absurd (false≢true h)
 
 -- A SEAT'S TURN over sets that are apart
 module _ (A : ℕ) (X Y X' Y' : Set) (hx : Apart A X X') (hy : Apart A Y Y') where
@@ -363,4 +363,4 @@ module _ (so si : List ℕ) (A : ℕ) (s s' : State) (g : Good so si s) (g' : Go
       (λ e e'. let f = (close_seat_done s.desk i (eq_of _ _ e)).seat in rel_close i (omega arith)) r
   keep (ask_part i n) h = r
   keep (ask_part_no i n) h = r
-  keep (aside q) h = r
+  keep (no_batch w ws places) h = r

@@ -17,7 +17,6 @@ use Rattle.regions.specs.Numbers.{DONE, IMAGE, DESK, FORM, unless}
 use Rattle.regions.specs.Limits.{region_width, pair_width, account_count, buffer_words, seat_width}
 use Rattle.regions.specs.Calls.{written, count_written, more_remain, region_words, open_set_no, save_no, delete_no, point_no, ancestors, parent, bounds_no, descendants, children, Pair, joined, join_no, pair_words}
 use Rattle.regions.specs.Items.{batch_no}
-use Rattle.form.specs.Text.{text_of, write_no}
 use Rattle.regions.specs.Desk.{past, mark_behind, closed, open_at, opened, seat_at, open_seat_no, close_seat_no, turned, handed_words, seat_word, poured, served, counts, round_no, part_no, part}
 
 -- WHAT THE CALLER HAS: two sets, the desk, one round buffer. Every call names a set by its place, so there is no third one; a call that
@@ -55,14 +54,8 @@ pub data Look : Type 0 where
   join : Which → Which → Kind → List ℕ → Look
   no_item : Which → ℕ → Look
 
--- What is asked for no account, and changes nothing: the listing of two sets (change request C-11), with the buffer's bytes as they are before it; and a batch that is refused as a whole (change request
--- C-14), with the words of its items, and the places for answers as they are before it
-pub data Aside : Type 0 where
-  write_listing : Which → Which → List ℕ → Aside
-  no_batch : Which → List ℕ → List ℕ → Aside
-
--- all calls but an opening of a set or of the desk. `ask_part` is answered by words, `ask_part_no` by the number that belongs to them. A batch that is not refused as a whole stands here as its items, each
--- the call of its account
+-- all calls but an opening of a set or of the desk. `ask_part` is answered by words, `ask_part_no` by the number that belongs to them. A batch (change request C-14) stands here as its items, each the
+-- call of its account; only where it is refused as a whole it is a call itself, `no_batch`, of no account: the words of its items, and the places for answers as they are before it
 pub data Call : Type 0 where
   save : Which → ℕ → Region → Call
   delete : Which → ℕ → ℕ → Call
@@ -72,10 +65,10 @@ pub data Call : Type 0 where
   close_seat : ℕ → Call
   ask_part : ℕ → ℕ → Call
   ask_part_no : ℕ → ℕ → Call
-  aside : Aside → Call
+  no_batch : Which → List ℕ → List ℕ → Call
 
 -- WHAT A CALL ANSWERS, but for its step count. One record for all calls: what a call does not answer is 0, false or empty.
--- `found` is the parent search's region or none; `words` are the lent words or bytes afterwards, or a part; `counts` and `hands` are a round's: how many
+-- `found` is the parent search's region or none; `words` are the lent words afterwards, or a part; `counts` and `hands` are a round's: how many
 -- pairs each seat is handed, and the words of these pairs
 pub record Shown : Type 0 where
   pub number : ℕ
@@ -122,10 +115,6 @@ finds rs = record { number = DONE; count = 0; more = false; found = rs; counts =
 abbrev pub joins : List ℕ → List Pair → Shown
 joins out qs = record { number = DONE; count = length qs; more = false; found = []; counts = []; hands = []; words = written pair_words pair_width out qs }
 
--- a text's length, and the bytes with it in front
-abbrev pub writes : List ℕ → List ℕ → Shown
-writes out text = record { number = DONE; count = length text; more = false; found = []; counts = []; hands = []; words = sets out 0 text }
-
 abbrev pub deals : List ℕ → List (List ℕ) → Shown
 deals ns hs = record { number = DONE; count = 0; more = false; found = []; counts = ns; hands = hs; words = [] }
 
@@ -144,11 +133,6 @@ looked a (child_search w b e l after out) s = unless (bounds_no a b e) (pages ou
 looked a (join x y k out) s = unless (join_no a) (joins out (joined (set_of x s) (set_of y s) a k)) (refuses (join_no a) out)
 looked a (no_item w k) s = says FORM
 
--- for no account
-unfoldable pub asked : Aside → State → Shown
-asked (write_listing x y out) s = let text = text_of (set_of x s) (set_of y s) in unless (write_no text out) (writes out text) (refuses (write_no text out) out)
-asked (no_batch w ws places) s = refuses (batch_no (length ws) (length places)) places
-
 -- a round over two sets
 abbrev pub dealt : Set → Set → List Seat → Shown
 dealt X Y desk = deals (counts X Y desk) (map (handed_words X Y) desk)
@@ -162,7 +146,7 @@ answer (open_seat i a k l) s = says (open_seat_no s.desk i a l)
 answer (close_seat i) s = says (close_seat_no s.desk i)
 answer (ask_part i n) s = hands_back (part s.desk s.buffer i n)
 answer (ask_part_no i n) s = says (part_no s.desk s.buffer i n)
-answer (aside q) s = asked q s
+answer (no_batch w ws places) s = refuses (batch_no (length ws) (length places)) places
 
 -- WHAT A CALL LEAVES: a refused call and a search, all as it was
 abbrev pub is_written : ℕ → Bool
@@ -195,7 +179,7 @@ next (open_seat i a k l) s = unless (open_seat_no s.desk i a l) (behind_open i (
 next (close_seat i) s = unless (close_seat_no s.desk i) (behind_close i s) s
 next (ask_part i n) s = s
 next (ask_part_no i n) s = s
-next (aside q) s = s
+next (no_batch w ws places) s = s
 
 -- RUNS. One call with its answer, from a state to the next: nobody else writes in between
 pub record Step (s : State) (c : Call) (a : Answer) (t : State) : Type 0 where
@@ -242,7 +226,7 @@ by_account A (open_seat i a k l) = false
 by_account A (close_seat i) = false
 by_account A (ask_part i n) = false
 by_account A (ask_part_no i n) = false
-by_account A (aside q) = false
+by_account A (no_batch w ws places) = false
 
 abbrev pub left_out : ℕ → List Call → List Call
 left_out A cs = filter (λ c. not (by_account A c)) cs
@@ -266,20 +250,7 @@ excepted A s (open_seat i a j l) k = false
 excepted A s (close_seat i) k = false
 excepted A s (ask_part i n) k = reads A (seat_at s.desk i) || not (get_or s.wrote (seat_word i + k) false)
 excepted A s (ask_part_no i n) k = false
-excepted A s (aside q) k = false
-
--- a whole answer may differ: the written listing shows all accounts (change request C-11)
-unfoldable pub shows_all : Call → Bool
-shows_all (save w a r) = false
-shows_all (delete w a p) = false
-shows_all (look a o) = false
-shows_all (round x y) = false
-shows_all (open_seat i a j l) = false
-shows_all (close_seat i) = false
-shows_all (ask_part i n) = false
-shows_all (ask_part_no i n) = false
-shows_all (aside (write_listing x y out)) = true
-shows_all (aside (no_batch w ws places)) = false
+excepted A s (no_batch w ws places) k = false
 
 -- TWO ANSWERS TO ONE CALL THAT AGREE, the first given in state s. Free are the step count (it is not shown), the count and words of a seat that reads the
 -- account, and the words excepted; and even of these there are equally many. All else is the same
@@ -295,12 +266,12 @@ pub record Same (A : ℕ) (s : State) (c : Call) (x y : Shown) : Type 0 where
   pub words_many : length x.words ≡ length y.words
   pub words : (k : ℕ) → excepted A s c k ≡ false → get_or x.words k 0 ≡ get_or y.words k 0
 
--- a whole history, from state s, beside one in which the account's calls are left out: call by call, every answer that both have agrees, but one that shows all accounts
+-- a whole history, from state s, beside one in which the account's calls are left out: call by call, every answer that both have agrees
 pub data Agree (A : ℕ) : State → List Done → List Done → Type 0 where
   ended : {s : State} → Agree A s [] []
   without : {s : State} {d : Done} {ds es : List Done} → by_account A d.call ≡ true → Agree A (next d.call s) ds es → Agree A s (d ∷ ds) es
   together : {s : State} {d e : Done} {ds es : List Done} → by_account A d.call ≡ false → d.call ≡ e.call
-      → (shows_all d.call ≡ false → Same A s d.call d.told.shown e.told.shown) → Agree A (next d.call s) ds es → Agree A s (d ∷ ds) (e ∷ es)
+      → Same A s d.call d.told.shown e.told.shown → Agree A (next d.call s) ds es → Agree A s (d ∷ ds) (e ∷ es)
 
 -- A SEAT IN A ROUND over X and Y, from state s to t, answered by x. What is left past its mark in the join's list
 abbrev pub left : Set → Set → Open → List Pair

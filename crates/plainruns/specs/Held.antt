@@ -7,7 +7,7 @@ use Rattle.regions.specs.declared.Region.{Region}
 use Rattle.regions.specs.Numbers.{DONE}
 use Rattle.plainruns.specs.Calls.{Which, Call, Shown, Done}
 use Rattle.plainruns.specs.Calls.Which.{outer, inner}
-use Rattle.plainruns.specs.Calls.Call.{save, delete, look, round, open_seat, close_seat, ask_part, ask_part_no, aside}
+use Rattle.plainruns.specs.Calls.Call.{save, delete, look, round, open_seat, close_seat, ask_part, ask_part_no, no_batch}
 
 abbrev pub is_which : Which → Which → Bool
 is_which outer outer = true
@@ -29,7 +29,7 @@ is_about w p (open_seat i a k l) = false
 is_about w p (close_seat i) = false
 is_about w p (ask_part i n) = false
 is_about w p (ask_part_no i n) = false
-is_about w p (aside q) = false
+is_about w p (no_batch v ws places) = false
 
 -- and an accepted one
 abbrev pub decides : Which → ℕ → Done → Bool
@@ -45,7 +45,7 @@ brought_by (open_seat i a k l) = []
 brought_by (close_seat i) = []
 brought_by (ask_part i n) = []
 brought_by (ask_part_no i n) = []
-brought_by (aside q) = []
+brought_by (no_batch v ws places) = []
 
 -- what is held at start p in set w behind a history, none or one, if `before` was held there before it: the last accepted save or delete decides
 unfoldable pub held_from : Which → ℕ → List Region → List Done → List Region
@@ -73,7 +73,7 @@ opens_seat i (open_seat j a k l) = eqb j i
 opens_seat i (close_seat j) = false
 opens_seat i (ask_part j n) = false
 opens_seat i (ask_part_no j n) = false
-opens_seat i (aside q) = false
+opens_seat i (no_batch v ws places) = false
 
 abbrev pub is_round : Call → Bool
 is_round (save v a r) = false
@@ -84,7 +84,7 @@ is_round (open_seat j a k l) = false
 is_round (close_seat j) = false
 is_round (ask_part j n) = false
 is_round (ask_part_no j n) = false
-is_round (aside q) = false
+is_round (no_batch v ws places) = false
 
 abbrev pub writes_word : ℕ → ℕ → Done → Bool
 writes_word i k d = is_round d.call && ltb k (4 * get_or d.told.shown.counts i 0)

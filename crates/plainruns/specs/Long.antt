@@ -6,7 +6,7 @@ use Rattle.regions.specs.Numbers.{DONE}
 use Rattle.regions.specs.Calls.{Pair}
 use Rattle.regions.specs.Desk.{later, seat_at, handed}
 use Rattle.plainruns.specs.Calls.{Which, State, set_of, Call, answer, next, Done}
-use Rattle.plainruns.specs.Calls.Call.{save, delete, look, round, open_seat, close_seat, ask_part, ask_part_no, aside}
+use Rattle.plainruns.specs.Calls.Call.{save, delete, look, round, open_seat, close_seat, ask_part, ask_part_no, no_batch}
 use Rattle.plainruns.specs.Held.{is_which, is_round}
 
 -- the same pair, by its two starts; that pair or one later
@@ -26,7 +26,7 @@ keeps_open i (open_seat j a k l) = true
 keeps_open i (close_seat j) = not (eqb j i)
 keeps_open i (ask_part j n) = true
 keeps_open i (ask_part_no j n) = true
-keeps_open i (aside q) = true
+keeps_open i (no_batch v ws places) = true
 
 abbrev pub Kept : ℕ → List Call → Type 0
 Kept i cs = All (λ c. keeps_open i c ≡ true) cs
@@ -41,7 +41,7 @@ is_over x y (open_seat j a k l) = true
 is_over x y (close_seat j) = true
 is_over x y (ask_part j n) = true
 is_over x y (ask_part_no j n) = true
-is_over x y (aside q) = true
+is_over x y (no_batch v ws places) = true
 
 abbrev pub Over : Which → Which → List Call → Type 0
 Over x y cs = All (λ c. is_over x y c ≡ true) cs
@@ -56,7 +56,7 @@ handed_by i (open_seat j a k l) s = []
 handed_by i (close_seat j) s = []
 handed_by i (ask_part j n) s = []
 handed_by i (ask_part_no j n) s = []
-handed_by i (aside q) s = []
+handed_by i (no_batch v ws places) s = []
 
 abbrev pub handed_in : ℕ → List Call → State → List Pair
 handed_in i [] s = []
@@ -79,7 +79,7 @@ touches a (open_seat j b k l) = false
 touches a (close_seat j) = false
 touches a (ask_part j n) = false
 touches a (ask_part_no j n) = false
-touches a (aside q) = false
+touches a (no_batch v ws places) = false
 
 abbrev pub Quiet : ℕ → List Call → State → Type 0
 Quiet a [] s = Unit {0}

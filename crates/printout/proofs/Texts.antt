@@ -8,9 +8,10 @@ use mathlib.Core.List.{List, [], ◌∷◌, ◌++◌, flat_map, append-nil, appe
 use lib.ListN.{length, take, drop, get_or, length-append, length-take, length-drop}
 use lib.Seq.{sets, length-sets, drop-cons, drop-drop, take-take}
 use Rattle.words.proofs.Written.{sets_append}
-use Rattle.lines.specs.Text.{line}
+use Rattle.lines.specs.Text.{decimal, line}
 use Rattle.lines.specs.Reads.{PutsLine}
-use Rattle.lines.proofs.Putting.{line_few}
+use Rattle.lines.proofs.Digits.{decimal_few}
+use Rattle.lines.proofs.Written.{line_more, line_one}
 use Rattle.regions.specs.Limits.{pair_width}
 use Rattle.regions.specs.Calls.{Pair, pair_words, written, count_written}
 use Rattle.regions.specs.Desk.{past, mark_behind}
@@ -20,6 +21,12 @@ use Rattle.seats.specs.Steps.{mark_read}
 use Rattle.seats.proofs.Marks.{mark_read_lem}
 use Rattle.join.specs.Joins.{Joined}
 use Rattle.printout.specs.Printed.{pair_line, pairs_text, words_text, PutsPairs, batch_pairs, batch, PutsBatch}
+
+-- HOW LONG: a number has at most ten digits, so a line of k numbers at most 11 k bytes
+pub line_long : (ns : List ℕ) → 1 ≤ length ns → length (line ns) ≤ 11 * length ns
+line_long [] h = absurd (omega arith)
+line_long (n ∷ []) h = rw line_one (omega (arith, decimal_few n, length-append (decimal n) (10 ∷ [])))
+line_long (n ∷ m ∷ ns) h = rw line_more (omega (arith, decimal_few n, line_long (m ∷ ns) (omega arith), length-append (decimal n) (32 ∷ line (m ∷ ns))))
 
 -- FOUR WORDS from an index on
 pub four_words : (ws : List ℕ) (a : ℕ) → a + 4 ≤ length ws
@@ -52,7 +59,7 @@ words_long zero ws h = omega arith
 words_long (suc n) ws h =
     let four : length (take 4 ws) ≡ 4 = length-take 4 ws ∙ omega arith in
     let rest = words_long n (drop 4 ws) (omega (arith, length-drop 4 ws)) in
-    omega (arith, line_few (take 4 ws) (omega arith), length-append (line (take 4 ws)) (words_text n (drop 4 ws)))
+    omega (arith, line_long (take 4 ws) (omega arith), length-append (line (take 4 ws)) (words_text n (drop 4 ws)))
 
 pub put_none : (ws out : List ℕ) → PutsPairs ws 0 out 0 out
 unfolding words_text
@@ -122,7 +129,7 @@ module _ (qs : List Pair) (m : Mark) (ws : List ℕ) (n : ℕ) (ws' : List ℕ) 
 text_long : (qs : List Pair) → length (pairs_text qs) ≤ 44 * length qs
 unfolding flat_map
 text_long [] = omega arith
-text_long (q ∷ qs) = omega (arith, line_few (pair_words q) (omega arith), text_long qs, length-append (pair_line q) (pairs_text qs))
+text_long (q ∷ qs) = omega (arith, line_long (pair_words q) (omega arith), text_long qs, length-append (pair_line q) (pairs_text qs))
 
 module _ {qs : List Pair} {m : Mark} {ws out : List ℕ} {bytes pairs : ℕ} {m' : Mark} {ws' out' : List ℕ} (b : PutsBatch qs m ws out bytes pairs m' ws' out') where
   pub batch_bytes : bytes ≤ 11264

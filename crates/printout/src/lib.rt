@@ -1,4 +1,5 @@
 // Pairs of the join as text: into a lent buffer, and from a mark on in batches, so that a join of any size is printed with little room.
+#![tactic(auto)]
 ghost use Rattle.std.specs.Prelude.{◌≡◌, ◌+◌, ◌*◌, ◌≤◌, T, length, take, drop};
 ghost use Rattle.regions.specs.Limits.{buffer_words, last_account};
 ghost use Rattle.regions.specs.Calls.{joined};
@@ -33,7 +34,7 @@ pub fn put_pairs(words: &[u32], n: usize, out: &mut [u8]) -> usize
 }
 
 // A batch: how many bytes and pairs it has, and the mark behind them.
-#[derive(Drop)]
+#[derive(Clone, Copy)]
 pub struct Batch {
     pub bytes: usize,
     pub pairs: usize,

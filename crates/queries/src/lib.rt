@@ -1,4 +1,5 @@
 // The public calls that ask: a set for ancestors, the parent, descendants and children, two sets for their join. Each takes any slices, tests in its order and answers its number; no image is changed.
+#![tactic(auto)]
 ghost use Rattle.std.specs.Prelude.{◌≡◌};
 ghost use Rattle.regions.specs.Numbers.{image_first};
 ghost use Rattle.regions.specs.Calls.{bounds_no};
@@ -10,7 +11,7 @@ use regions::{Choice, Kind, Mark, Region};
 use tally::Found;
 
 // The ancestor search's answer: its number, how many ancestors there are, and the steps it made.
-#[derive(Drop)]
+#[derive(Clone, Copy)]
 pub struct Ancestors {
     pub number: u32,
     pub total: usize,
@@ -18,7 +19,7 @@ pub struct Ancestors {
 }
 
 // A descendant or child search's answer: its number, how many regions were written, and whether more remain.
-#[derive(Drop)]
+#[derive(Clone, Copy)]
 pub struct Listed {
     pub number: u32,
     pub count: usize,
@@ -26,14 +27,14 @@ pub struct Listed {
 }
 
 // The join's answer: its number, and how many pairs there are.
-#[derive(Drop)]
+#[derive(Clone, Copy)]
 pub struct JoinedPairs {
     pub number: u32,
     pub total: usize,
 }
 
 // The parent search's answer.
-#[derive(Drop)]
+#[derive(Clone, Copy)]
 pub enum Parent {
     Refused(u32),
     Nothing,

@@ -1,4 +1,5 @@
 // Lists that a split moves: what the middle key of an inner page takes from the keys left of it as it rises, and what a key takes from the next one where it enters a page.
+#![tactic(auto)]
 ghost use Rattle.std.specs.Prelude.{◌≡◌, ℕ, ◌≤◌, ◌<◌, length};
 ghost use Rattle.pages.specs.Layout.{fill_of, image_words};
 ghost use Rattle.raising.specs.Moves.{RaiseReady, Raised, EnterReady, Entered};
@@ -6,7 +7,7 @@ ghost use Rattle.raising.specs.Moves.{RaiseReady, Raised, EnterReady, Entered};
 use pages::{KeyWords, Page};
 
 // An inner page whose middle key has all that it stabs, and that key.
-#[derive(Drop)]
+#[derive(Clone, Copy)]
 pub struct Risen {
     pub page: Page,
     pub key: KeyWords,

@@ -4,7 +4,6 @@ pub mod Means
 pub mod Local
 pub mod Done
 pub mod Rising
-pub mod Parted
 pub mod Items
 pub mod Chain
 pub mod Joined

@@ -233,3 +233,52 @@ deleted_sound S a s e g =
           | yes q ↦ subst (λ c. held_by c (deleted s S) ≤ share_of c S) (sym q) (omega (arith, held_deleted S s g.rising m.held, g.within (account s)))
           | no q ↦ omega (arith, others_deleted S s b q, g.within b)
         ]
+
+-- shares of the accounts from i on, and regions of these accounts only
+shared_out : (cs : List ℕ) (i : ℕ) (rs : List Region) → ((j : ℕ) → length (filter (of (i + j)) rs) ≤ get_or cs j 0)
+    → All (λ r. (i ≤ account r.start) × (account r.start < i + length cs)) rs → length rs ≤ sum cs
+unfolding sum
+shared_out [] i [] f h = omega arith
+shared_out [] i (r ∷ rs) f h = absurd (omega arith)
+shared_out (c ∷ cs) i rs f h =
+    let others = filter (λ r. not (of i r)) rs in
+    omega (
+      arith,
+      length_parts (of i) rs,
+      subst (λ n. length (filter (of n) rs) ≤ c) zeroth (f 0),
+      shared_out cs (suc i) others next (all_two
+          {R = λ r. (suc i ≤ account r.start) × (account r.start < suc i + length cs)}
+          (λ r m k. let n : (account r.start ≡ i → ⊥) = false_so (of_says i r) (not_true _ k) in let u = m.0 in let v = m.1 in omega arith) others
+          (all_kept (λ r. (i ≤ account r.start) × (account r.start < i + length (c ∷ cs))) (λ r. not (of i r)) rs h) (all_let (λ r. not (of i r)) rs)),
+    )
+  where
+    zeroth : i + 0 ≡ i
+    zeroth = omega arith
+
+    later : (j : ℕ) → i + suc j ≡ suc i + j
+    later j = omega arith
+
+    -- an account behind i has none of i's regions
+    off : (j : ℕ) (r : Region) → of (suc i + j) r ≡ true → not (of i r) ≡ true
+    off j r e = let u = true_so (of_says (suc i + j) r) e in ap not (so_false (of_says i r) (λ k. omega arith))
+
+    same : (j : ℕ) → filter (of (suc i + j)) (filter (λ r. not (of i r)) rs) ≡ filter (of (suc i + j)) rs
+    same j =
+        let own = filter (of (suc i + j)) rs in
+        filter_comm (of (suc i + j)) (λ r. not (of i r)) rs ∙ filter_all (λ r. not (of i r)) own (all_mono (λ r e. off j r e) own (all_let (of (suc i + j)) rs))
+
+    next : (j : ℕ) → length (filter (of (suc i + j)) (filter (λ r. not (of i r)) rs)) ≤ get_or cs j 0
+    next j = omega (arith, ap length (same j), subst (λ n. length (filter (of n) rs) ≤ get_or cs j 0) (later j) (f (suc j)))
+
+-- sixteen shares bound the whole set: so a save that its share allows always finds room
+pub few : (S : Set) → Sound S → length S.shares ≡ 16 → All (λ r. account r.start ≤ 15) S.regions → length S.regions ≤ 500
+few S g e h =
+    omega (
+      arith,
+      g.shared,
+      shared_out S.shares 0 S.regions at
+          (all_mono {Q = λ r. (0 ≤ account r.start) × (account r.start < 0 + length S.shares)} (λ r l. omega arith) S.regions h),
+    )
+  where
+    at : (j : ℕ) → length (filter (of (0 + j)) S.regions) ≤ get_or S.shares j 0
+    at j = let z : j ≡ 0 + j = omega arith in subst (λ n. length (filter (of n) S.regions) ≤ get_or S.shares j 0) z (g.within j)

@@ -1,4 +1,5 @@
 // Regions, kinds, marks and seats, and the small tests on them that everybody needs, each equal to its definition.
+#![tactic(auto)]
 ghost use Rattle.std.specs.Prelude.{◌≡◌, leb, ltb};
 ghost use Rattle.words.specs.Lists.{sum};
 ghost use Rattle.regions.specs.Limits.{most_regions};
@@ -80,7 +81,7 @@ pub const BUFFER_WORDS: usize = 1024;
 pub type Shares = [u32; 16];
 
 // An element: where it starts and ends, its depth in its document, and the house's reference to it.
-#[derive(Drop)]
+#[derive(Clone, Copy)]
 pub struct Region {
     pub start: u32,
     pub end: u32,
@@ -89,14 +90,14 @@ pub struct Region {
 }
 
 // Whether a region that starts at a position holds it too.
-#[derive(Drop)]
+#[derive(Clone, Copy)]
 pub enum Choice {
     Strict,
     WithSelf,
 }
 
 // What a join pairs.
-#[derive(Drop)]
+#[derive(Clone, Copy)]
 pub enum Kind {
     Ancestor,
     Parent,
@@ -104,13 +105,13 @@ pub enum Kind {
 }
 
 // How far a seat has been served: the last pair handed, by a's start and d's start.
-#[derive(Drop)]
+#[derive(Clone, Copy)]
 pub enum Mark {
     Fresh,
     Last(u32, u32),
 }
 
-#[derive(Drop)]
+#[derive(Clone, Copy)]
 pub struct Open {
     pub account: u32,
     pub kind: Kind,
@@ -118,13 +119,13 @@ pub struct Open {
     pub mark: Mark,
 }
 
-#[derive(Drop)]
+#[derive(Clone, Copy)]
 pub enum State {
     Closed,
     Open(Open),
 }
 
-#[derive(Drop)]
+#[derive(Clone, Copy)]
 pub struct Seat {
     pub state: State,
 }

@@ -1,6 +1,7 @@
 // Plays scripts of public calls and prints their answers. Each argument names a script, played from a fresh store; without arguments standard input is one.
 // A script is at most 1,048,576 bytes, one command a line; `script.rt` has the table of the commands. At a line that is none, `script N` is printed, N its number
 // from 1, and the script ends there; of one that is too long only `script 0`.
+#![tactic(auto)]
 mod seats;
 mod sets;
 
@@ -10,7 +11,7 @@ use regions::Seat;
 use script::Command;
 
 // What is kept beside the lent words: how many words of each image are lent, and the desk.
-#[derive(Drop)]
+#[derive(Clone, Copy)]
 struct Store {
     outer: usize,
     inner: usize,

@@ -19,8 +19,7 @@ use Rattle.regions.specs.Calls.{save_no, delete_no}
 use Rattle.regions.proofs.Means.{of_says}
 use Rattle.regions.specs.Sound.{Wf, Rising, Sound}
 use Rattle.regions.proofs.Done.{save_done}
-use Rattle.regions.proofs.Rising.{nesting_says, leveling_says, saved_sound, deleted_sound, saved_all, deleted_all, saved_rises, deleted_rises, free_sides}
-use Rattle.regions.proofs.Parted.{few}
+use Rattle.regions.proofs.Rising.{nesting_says, leveling_says, saved_sound, deleted_sound, few, saved_all, deleted_all, saved_rises, deleted_rises, free_sides}
 use Rattle.xrtree.specs.Tree.{regions}
 use Rattle.xrtree.specs.Rules.{starts_first, shares_kept, rule6}
 use Rattle.pages.specs.Layout.{root_of, shares_of}

@@ -1,4 +1,5 @@
 // The commands of a script, and the reader of a line.
+#![tactic(auto)]
 ghost use Rattle.std.specs.Prelude.{◌+◌, ◌*◌, ◌≤◌, length};
 
 // The commands by their row in the table.
@@ -66,7 +67,7 @@ const MOST: usize = 18;
 pub type Numbers = [u32; 18];
 
 // A line that was read: whether it is a command, which, what it is put to, and its numbers.
-#[derive(Drop)]
+#[derive(Clone, Copy)]
 pub struct Command {
     pub ok: bool,
     pub what: usize,
@@ -75,7 +76,7 @@ pub struct Command {
 }
 
 // A number behind its space: whether it is there, which, and the place behind it.
-#[derive(Drop)]
+#[derive(Clone, Copy)]
 struct Next {
     ok: bool,
     value: u32,

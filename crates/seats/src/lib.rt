@@ -1,4 +1,5 @@
 // SEATS BY VALUE: what is decided of one seat, and of the eight together, with nothing lent but words to read. The calls on the desk read, ask here, and store.
+#![tactic(auto)]
 ghost use Rattle.std.specs.Prelude.{◌≡◌, ◌&&◌, ◌+◌, ◌*◌, ◌≤◌, length, replicate};
 ghost use Rattle.regions.specs.Limits.{pair_width, seat_count};
 ghost use Rattle.regions.specs.Desk.{mark_fits, seat_fits, desk_fits, closed, limit_asked};
@@ -73,7 +74,7 @@ pub fn opened_desk() -> [Seat; regions::SEAT_COUNT]
 }
 
 // A seat after a call on it, and the call's number. A refusal hands the seat back as it was, so that it may be stored in any case.
-#[derive(Drop)]
+#[derive(Clone, Copy)]
 pub struct Change {
     pub seat: Seat,
     pub number: u32,

@@ -1,4 +1,5 @@
 // What a search has met so far, by value: how many ancestors it took, the steps it made, the last one taken. Each ancestor that it meets is counted here, and written where there is room.
+#![tactic(auto)]
 ghost use Rattle.std.specs.Prelude.{◌≡◌, [], ◌∷◌};
 ghost use Rattle.tally.specs.Tasks.{accepts};
 ghost use Rattle.tally.specs.Tallies.{Tallied, stepped, fresh_tally, Small};
@@ -6,21 +7,21 @@ ghost use Rattle.tally.specs.Tallies.{Tallied, stepped, fresh_tally, Small};
 use regions::Region;
 
 // None, or the last region that a search took.
-#[derive(Drop)]
+#[derive(Clone, Copy)]
 pub enum Found {
     Nothing,
     At(Region),
 }
 
 // Which ancestors are taken: all; those of the level one less.
-#[derive(Drop)]
+#[derive(Clone, Copy)]
 pub enum Task {
     List,
     Above(u32),
 }
 
 // How many ancestors were taken, the steps made, and the last one taken.
-#[derive(Drop)]
+#[derive(Clone, Copy)]
 pub struct Tally {
     pub total: usize,
     pub steps: usize,

@@ -1,4 +1,5 @@
 // A stab list followed record by record along the regions that belong in it, as they are met in the tree from left to right.
+#![tactic(auto)]
 ghost use Rattle.std.specs.Prelude.{◌≡◌};
 ghost use Rattle.xrtree.specs.Rules.{same_region};
 ghost use Rattle.trail.specs.Pass.{bad, is_home, step, meet, follow, regions_at, Fills, begun, ended};
@@ -7,7 +8,7 @@ use regions::Region;
 
 // How far the test has come: the record that must come next (0 where the list has ended), and how many of the used records are still to be met.
 // Each record met takes one, so that a hostile list ends.
-#[derive(Drop)]
+#[derive(Clone, Copy)]
 pub struct Trail {
     pub ok: bool,
     pub at: u32,
@@ -15,7 +16,7 @@ pub struct Trail {
 }
 
 // Where a key's list is at home: its regions start from low on and at the key at the latest, and end at the key or behind it, before high.
-#[derive(Drop)]
+#[derive(Clone, Copy)]
 pub struct Home {
     pub low: usize,
     pub key: usize,

@@ -1,4 +1,5 @@
 // A SEAT'S TURN in a round: its next pairs into its own words of the buffer. And all eight turns, with the seats by value.
+#![tactic(auto)]
 ghost use Rattle.regions.specs.Desk.{open_at};
 ghost use Rattle.image.specs.Read.{set_of};
 ghost use Rattle.turns.specs.Steps.{MayTurn, Hands, Turns, MayServe, Serves};
@@ -6,7 +7,7 @@ ghost use Rattle.turns.specs.Steps.{MayTurn, Hands, Turns, MayServe, Serves};
 use regions::{Open, Seat, State};
 
 // A seat after its turn, and the counts with its own.
-#[derive(Drop)]
+#[derive(Clone, Copy)]
 pub struct Turn {
     pub seat: Seat,
     pub counts: [u32; regions::SEAT_COUNT],
@@ -65,7 +66,7 @@ pub fn seat_turn(
 }
 
 // The seats after their turns, and the eight counts.
-#[derive(Drop)]
+#[derive(Clone, Copy)]
 pub struct Served {
     pub seats: [Seat; regions::SEAT_COUNT],
     pub counts: [u32; regions::SEAT_COUNT],

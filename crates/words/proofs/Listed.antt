@@ -172,6 +172,7 @@ module _ {A : Type 0} where
 
   pub in_filter : (p : A → Bool) (x : A) (xs : List A) → In x xs → p x ≡ true → In x (filter p xs)
   unfolding filter
+  in_filter p x [] h e = elim h [ ]
   in_filter p x (y ∷ ys) (inl q) e = rw (ap p (sym q) ∙ e) (inl q)
   in_filter p x (y ∷ ys) (inr h) e = by_test (p y) (λ t. rw t (inr (in_filter p x ys h e))) (λ t. rw t (in_filter p x ys h e))
 

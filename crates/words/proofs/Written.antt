@@ -29,7 +29,7 @@ module _ {A : Type 0} where
 
   pub sets_append : (l : List A) (i j : ℕ) (us vs : List A) → j ≡ i + length us → sets (sets l i us) j vs ≡ sets l i (us ++ vs)
   sets_append l i j [] vs e = ap (λ (x : ℕ). sets l x vs) (omega arith)
-  sets_append l i j (u ∷ us) vs e = sets_append _ (suc i) j us vs (omega arith)
+  sets_append l i j (u ∷ us) vs e = sets_append (set l i u) (suc i) j us vs (omega arith)
 
   -- a word beside a run may be written before it or behind it; what is written within a run is that run written with it
   pub set_beside : (vs l : List A) (i j : ℕ) (x : A) → ((k : ℕ) → k < length vs → i + k ≢ j) → set (sets l i vs) j x ≡ sets (set l j x) i vs

@@ -1,4 +1,5 @@
 // Words: the readers that every other crate leans on.
+#![tactic(auto)]
 ghost use Rattle.std.specs.Prelude.{◌≡◌, ◌<◌, get_or};
 
 // A word as a size, for sums that must not wrap.

@@ -1,0 +1,7 @@
+-- `capi::sasnuvarth_open_desk` meets its contract.
+use borrow.Author.Rules.{rules}
+use Rattle.capi.proofs.Calls.{opens_desk}
+use Rattle.capi.proofs.sasnuvarth_open_desk.Goals as goal
+
+pub returns : goal.returns
+returns c = opens_desk _ _ _ _ c.closed_seat-s.ensures c.open_desk_by_value-opened.ensures c.flat_desk.ensures

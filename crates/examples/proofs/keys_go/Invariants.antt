@@ -1,0 +1,14 @@
+-- `examples::keys_go` is safe and ends.
+use borrow.Author.Rules.{rules}
+use Prim.Native.Nat.{◌-◌, ◌≤◌}
+use native.Mathlib.Omega.{arith}
+use mathlib.Core.Path.{◌≡◌}
+use mathlib.Core.Logic.{⊎_elim}
+use lib.ListN.{length}
+use Rattle.examples.proofs.keys_go.Given as goal
+
+abbrev pub invariant-loop-i : goal.invariant-loop-i
+invariant-loop-i l = (l.i ≤ 40) × (l.found ≤ l.i) × (length l.img ≡ length l.initial.img)
+
+abbrev pub decreases-loop-i : goal.decreases-loop-i
+decreases-loop-i l = 40 - l.i

@@ -1,0 +1,13 @@
+-- `flat::flat_seat` meets its contract.
+use borrow.Author.Rules.{rules}
+use mathlib.Core.Path.{sym, ap, ◌∙◌}
+use Rattle.flat.specs.Seats.{flat_state}
+use Rattle.flat.proofs.flat_seat.Goals as goal
+
+pub returns-in-Closed : goal.returns-in-Closed
+unfolding flat_state
+returns-in-Closed c = sym (ap flat_state c.in-Closed.is)
+
+pub returns-in-Open : goal.returns-in-Open
+unfolding flat_state
+returns-in-Open c = c.flat_open.ensures ∙ sym (ap flat_state c.in-Open.is)

@@ -1,0 +1,13 @@
+-- `follow::refill` meets its contract: all ancestors have room.
+use borrow.Author.Rules.{rules}
+use native.Mathlib.Omega.{arith}
+use Rattle.image.proofs.Sound.{valid_sound}
+use Rattle.path.proofs.Ways.{descend_asks}
+use Rattle.follow.proofs.Moves.{refilled}
+use Rattle.follow.proofs.refill.Goals as goal
+
+pub descend-way-requires : goal.descend-way-requires
+descend-way-requires c = descend_asks _ c.requires.t
+
+pub returns : goal.returns
+returns c = refilled _ _ _ _ _ _ _ _ c.requires.held_len (valid_sound _ (λ i. omega (arith, c.shared_slice_known-1.given i)) c.requires.t) c.ancestors_along-t.ensures c.seek_along-cur.ensures

@@ -1,0 +1,14 @@
+-- `index::clear` meets its contract: the words before i are 0.
+use borrow.Author.Rules.{rules}
+use Prim.Native.Nat.{◌-◌, ◌≤◌}
+use mathlib.Core.Path.{◌≡◌, refl}
+use native.Mathlib.Omega.{arith}
+use lib.ListN.{take, length, replicate, length-set}
+use Rattle.index.proofs.Opened.{cleared, all_cleared}
+use Rattle.index.proofs.clear.Given as goal
+
+abbrev pub invariant-loop-i : goal.invariant-loop-i
+invariant-loop-i l = (l.i ≤ length l.img) × (length l.img ≡ length l.initial.img) × (take l.i l.img ≡ replicate l.i 0)
+
+abbrev pub decreases-loop-i : goal.decreases-loop-i
+decreases-loop-i l = length l.img - l.i

@@ -1,0 +1,28 @@
+-- `index::open_set` meets its contract: each refusal changes no word, and what is left otherwise is the opened image.
+use borrow.Author.Rules.{rules}
+use native.Mathlib.Omega.{arith}
+use mathlib.Core.Path.{sym, ◌∙◌}
+use lib.ListN.{length-set}
+use Rattle.words.proofs.Tests.{not_true, not_false}
+use Rattle.index.proofs.Opened.{open_image, open_shares, open_done, image_opened}
+use Rattle.index.proofs.open_set.Goals as goal
+
+pub returns-then-img-ne-IMAGE_WORDS : goal.returns-then-img-ne-IMAGE_WORDS
+returns-then-img-ne-IMAGE_WORDS c = open_image _ _ c.if-img-ne-IMAGE_WORDS.true
+
+pub returns-then-not-shares_fit : goal.returns-then-not-shares_fit
+returns-then-not-shares_fit c = open_shares _ c.args.shares c.if-img-ne-IMAGE_WORDS.false (sym c.shares_fit.ensures ∙ not_true c.shares_fit.result c.if-not-shares_fit.true-raw)
+
+pub bounds-img-1 : goal.bounds-img-1
+bounds-img-1 c = simp length-set (omega arith)
+
+pub bounds-img-57 : goal.bounds-img-57
+bounds-img-57 c = simp length-set (omega arith)
+
+pub shape_of-img : goal.shape_of-img
+shape_of-img c = simp length-set (omega arith)
+
+pub returns : goal.returns
+returns c =
+    open_done c.args.img.now _ c.args.shares (omega arith) (sym c.shares_fit.ensures ∙ not_false c.shares_fit.result c.if-not-shares_fit.false-raw)
+    (image_opened c.args.img.now c.clear.new.0 c.put_shares.new.0 c.args.shares (omega arith) (search rules) c.clear.ensures c.put_shares.ensures)

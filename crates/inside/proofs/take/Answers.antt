@@ -1,0 +1,12 @@
+-- `inside::take` meets its contract: passed by, or written and counted.
+use borrow.Author.Rules.{rules}
+use mathlib.Core.Path.{sym, ◌∙◌}
+use Rattle.words.proofs.Tests.{not_true, not_false}
+use Rattle.inside.proofs.Walks.{took_not, took_one}
+use Rattle.inside.proofs.take.Goals as goal
+
+pub returns-then-not-is_wanted : goal.returns-then-not-is_wanted
+returns-then-not-is_wanted c = took_not _ _ _ _ (sym c.is_wanted.ensures ∙ not_true c.is_wanted.result c.if-not-is_wanted.true-raw)
+
+pub returns : goal.returns
+returns c = took_one _ _ _ _ _ (sym c.is_wanted.ensures ∙ not_false c.is_wanted.result c.if-not-is_wanted.false-raw) c.put_region.ensures

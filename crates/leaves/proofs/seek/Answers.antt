@@ -1,0 +1,12 @@
+-- `leaves::seek` meets its contract: down, and in the leaf reached.
+use borrow.Author.Rules.{rules}
+use Rattle.regions.specs.Positions.{too_late}
+use Rattle.path.proofs.Ways.{descend_asks}
+use Rattle.leaves.proofs.seek.Goals as goal
+
+pub descend-requires : goal.descend-requires
+descend-requires c = descend_asks _ c.requires
+
+pub returns : goal.returns
+unfolding too_late
+returns c = c.seek_along.ensures

@@ -1,0 +1,29 @@
+-- `leaves::seek_along` meets its contract: the last page of the path is the leaf where x belongs; the entry stands in it, or first in the next.
+use borrow.Author.Rules.{rules}
+use native.Mathlib.Omega.{arith}
+use mathlib.Core.Path.{◌≡◌}
+use lib.ListN.{get_or}
+use Rattle.pages.specs.Layout.{root_of}
+use Rattle.image.specs.Read.{depth_of}
+use Rattle.path.specs.Path.{down_to}
+use Rattle.path.proofs.Ways.{valid_sized, path_read}
+use Rattle.leaves.proofs.Finds.{seek_few, found_in, found_next}
+use Rattle.leaves.proofs.seek_along.Goals as goal
+
+pub depth-depth-requires : goal.depth-depth-requires
+depth-depth-requires c = (valid_sized _ c.requires.t).1
+
+pub offset_bounds-way-depth : goal.offset_bounds-way-depth
+offset_bounds-way-depth c = omega (arith, c.depth-depth.ensures, (valid_sized _ c.requires.t).2)
+
+pub bounds-way-depth : goal.bounds-way-depth
+bounds-way-depth c = omega (arith, c.depth-depth.ensures, (valid_sized _ c.requires.t).2)
+
+pub entry_rank-rank-requires : goal.entry_rank-rank-requires
+entry_rank-rank-requires c = let reached : get_or c.args.way c.depth-depth.result 0 ≡ down_to (depth_of c.args.img.now) c.args.img.now c.args.x (root_of c.args.img.now) = let s = valid_sized c.args.img.now c.requires.t in rw (c.requires.way_value, c.depth-depth.ensures) (path_read c.args.img.now c.args.x _ s.2 s.1 (omega arith)) in seek_few _ c.requires.t c.args.choice c.args.x _ (reached)
+
+pub returns-then-rank-fill : goal.returns-then-rank-fill
+returns-then-rank-fill c = let reached : get_or c.args.way c.depth-depth.result 0 ≡ down_to (depth_of c.args.img.now) c.args.img.now c.args.x (root_of c.args.img.now) = let s = valid_sized c.args.img.now c.requires.t in rw (c.requires.way_value, c.depth-depth.ensures) (path_read c.args.img.now c.args.x _ s.2 s.1 (omega arith)) in found_in _ c.requires.t c.args.choice c.args.x _ _ _ (reached) c.entry_rank-rank.ensures c.fill.ensures c.if-rank-fill.true
+
+pub returns-else-rank-fill : goal.returns-else-rank-fill
+returns-else-rank-fill c = let reached : get_or c.args.way c.depth-depth.result 0 ≡ down_to (depth_of c.args.img.now) c.args.img.now c.args.x (root_of c.args.img.now) = let s = valid_sized c.args.img.now c.requires.t in rw (c.requires.way_value, c.depth-depth.ensures) (path_read c.args.img.now c.args.x _ s.2 s.1 (omega arith)) in found_next _ c.requires.t c.args.choice c.args.x _ _ _ _ (reached) c.entry_rank-rank.ensures c.fill.ensures c.if-rank-fill.false c.next_leaf.ensures

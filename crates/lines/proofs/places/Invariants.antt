@@ -1,0 +1,13 @@
+-- `lines::places` meets its contract. The loop's invariant: k digits were counted, and the rest is the number without them. The measure is how far the power may still grow.
+use Prim.Native.Nat.{◌≤◌, ◌-◌}
+use borrow.Author.Rules.{rules}
+use native.Mathlib.Omega.{arith}
+use Rattle.lines.proofs.Digits.{decimal_few}
+use Rattle.lines.proofs.Putting.{Placed, placed_first, placed_next, placed_last}
+use Rattle.lines.proofs.places.Given as goal
+
+abbrev pub invariant-loop-power : goal.invariant-loop-power
+invariant-loop-power l = (l.power ≤ 42949672950) × Placed l.n l.k l.power
+
+abbrev pub decreases-loop-power : goal.decreases-loop-power
+decreases-loop-power l = 42949672950 - l.power

@@ -1,0 +1,13 @@
+-- `lines::put_line` meets its contract. The loop's invariant: with the numbers that are left to put, the buffer is as it should be. The measure is how many are left.
+use Prim.Native.Nat.{◌≤◌, ◌-◌}
+use mathlib.Core.Path.{◌≡◌, refl}
+use borrow.Author.Rules.{rules}
+use native.Mathlib.Omega.{arith}
+use Rattle.lines.proofs.Putting.{Putting, putting_first, putting_room, putting_next, putting_last}
+use Rattle.lines.proofs.put_line.Given as goal
+
+abbrev pub invariant-loop-i : goal.invariant-loop-i
+invariant-loop-i l = (l.i ≤ l.k) × Putting l.initial.out l.at l.k l.numbers l.out l.place l.i
+
+abbrev pub decreases-loop-i : goal.decreases-loop-i
+decreases-loop-i l = l.k - l.i

@@ -1,0 +1,23 @@
+-- `listing::read_regions` meets its contract.
+use borrow.Author.Rules.{rules}
+use Prim.Native.Nat.{◌+◌, ◌-◌, ◌≤◌}
+use mathlib.Core.Path.{◌≡◌, refl, sym, ◌∙◌}
+use native.Mathlib.Omega.{arith}
+use lib.Dec.{T}
+use lib.ListN.{length}
+use Rattle.image.specs.Read.{set_of}
+use Rattle.image.specs.Valid.{valid}
+use Rattle.form.specs.Form.{items, section, region_no, saved_line}
+use Rattle.changes.specs.Counts.{Counted}
+use Rattle.form.specs.Steps.{place_at, Stands}
+use Rattle.form.proofs.Sections.{stands_on, section_goes, section_ends, items_go, items_end, items_none, heard_same}
+use Rattle.listing.proofs.Sections.{regions_refused}
+use Rattle.changes.proofs.Counts.{counts_none}
+use Rattle.listing.proofs.Copied.{same_long}
+use Rattle.listing.proofs.read_regions.Given as goal
+
+abbrev pub invariant-loop-i : goal.invariant-loop-i
+invariant-loop-i l = (l.i ≤ l.c.count) × T (valid l.img) × Counted l.held l.img × Stands l.text l.this l.here × (section region_no saved_line 500 (set_of l.initial.img) (place_at l.text l.line l.at) ≡ items region_no saved_line (l.c.count - l.i) (set_of l.img) (place_at l.text l.this l.here)) × (length l.img ≡ length l.initial.img)
+
+abbrev pub decreases-loop-i : goal.decreases-loop-i
+decreases-loop-i l = l.c.count - l.i

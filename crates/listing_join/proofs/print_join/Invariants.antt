@@ -1,0 +1,10 @@
+-- `listing_join::print_join` is safe and ends.
+use borrow.Author.Rules.{rules}
+use Prim.Native.Nat.{◌-◌, ◌≤◌}
+use Rattle.listing_join.proofs.print_join.Given as goal
+
+abbrev pub invariant-loop-account : goal.invariant-loop-account
+invariant-loop-account l = l.account ≤ 16
+
+abbrev pub decreases-loop-account : goal.decreases-loop-account
+decreases-loop-account l = 16 - l.account

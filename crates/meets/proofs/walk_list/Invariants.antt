@@ -1,0 +1,15 @@
+-- `meets::walk_list` meets its contract. The invariant: what is still to be met, from the next record on, leads to the whole.
+use borrow.Author.Rules.{rules}
+use mathlib.Core.Path.{sym, ◌∙◌}
+use Rattle.words.proofs.Tests.{not_true, not_false}
+use Prim.Native.Nat.{◌-◌, ◌≤◌}
+use native.Mathlib.Omega.{arith}
+use Rattle.tally.proofs.Tallies.{leads_all}
+use Rattle.meets.proofs.Loops.{Walking, walk_ended, walk_full, walk_stop, walk_on}
+use Rattle.meets.proofs.walk_list.Given as goal
+
+abbrev pub invariant-loop-n : goal.invariant-loop-n
+invariant-loop-n l = (l.n ≤ 501) × Walking l.task l.initial.out l.initial.t l.img l.choice l.p l.head l.out l.t l.q l.n
+
+abbrev pub decreases-loop-n : goal.decreases-loop-n
+decreases-loop-n l = 501 - l.n

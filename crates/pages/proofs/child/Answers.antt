@@ -1,0 +1,7 @@
+-- `pages::child` meets its contract: the word at the offset by its definition.
+use borrow.Author.Rules.{rules}
+use mathlib.Core.Path.{◌∙◌}
+use Rattle.pages.proofs.child.Goals as goal
+
+pub returns : goal.returns
+returns c = c.page_word.ensures ∙ rw c.child_word.ensures

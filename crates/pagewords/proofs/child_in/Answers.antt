@@ -1,0 +1,6 @@
+-- `pagewords::child_in` meets its contract: read at the offset by its definition.
+use borrow.Author.Rules.{rules}
+use Rattle.pagewords.proofs.child_in.Goals as goal
+
+pub returns : goal.returns
+returns c = rw c.child_word.ensures

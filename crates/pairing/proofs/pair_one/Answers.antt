@@ -1,0 +1,12 @@
+-- `pairing::pair_one` meets its contract: passed by, or written and counted.
+use borrow.Author.Rules.{rules}
+use mathlib.Core.Path.{sym, ◌∙◌}
+use Rattle.words.proofs.Tests.{not_true, not_false}
+use Rattle.pairing.proofs.Pairs.{paired_none, paired_one}
+use Rattle.pairing.proofs.pair_one.Goals as goal
+
+pub returns-then-not-takes : goal.returns-then-not-takes
+returns-then-not-takes c = paired_none (sym c.takes.ensures ∙ not_true c.takes.result c.if-not-takes.true-raw)
+
+pub returns : goal.returns
+returns c = paired_one (sym c.takes.ensures ∙ not_false c.takes.result c.if-not-takes.false-raw) c.put_pair.ensures

@@ -1,0 +1,14 @@
+-- `raising::raise` meets its contract: the keys from j on are done.
+use borrow.Author.Rules.{rules}
+use Prim.Native.Nat.{ℕ, ◌≤◌}
+use mathlib.Core.Path.{refl, ◌∙◌}
+use native.Mathlib.Omega.{arith}
+use Rattle.raising.specs.Moves.{RaiseReady}
+use Rattle.raising.proofs.Raising.{Rising, rise_start, rise_done, x_is, turn_ends, rise_again}
+use Rattle.raising.proofs.raise.Given as goal
+
+abbrev pub invariant-loop-j : goal.invariant-loop-j
+invariant-loop-j l = (l.j ≤ l.c) × ((h : ℕ) (g : RaiseReady l.initial.img l.page l.c h) → Rising l.initial.img l.page l.c h g l.img l.key l.ws l.j)
+
+abbrev pub decreases-loop-j : goal.decreases-loop-j
+decreases-loop-j l = l.j

@@ -1,0 +1,8 @@
+-- `refuse::is_held` meets its contract.
+use borrow.Author.Rules.{rules}
+use mathlib.Core.Path.{ap, ◌∙◌}
+use Rattle.words.specs.Lists.{some}
+use Rattle.refuse.proofs.is_held.Goals as goal
+
+pub returns : goal.returns
+returns c = c.is_found.ensures ∙ ap some c.region_at-found.ensures

@@ -1,0 +1,13 @@
+-- `replay::sets::open` is safe and ends.
+use borrow.Author.Rules.{rules}
+use Prim.Native.Nat.{◌-◌, ◌≤◌}
+use mathlib.Core.Path.{◌≡◌}
+use native.Mathlib.Omega.{arith}
+use lib.ListN.{length, length-set}
+use Rattle.replay.proofs.sets/open.Given as goal
+
+abbrev pub invariant-loop-a : goal.invariant-loop-a
+invariant-loop-a l = (l.a ≤ 16) × (length l.shares ≡ 16)
+
+abbrev pub decreases-loop-a : goal.decreases-loop-a
+decreases-loop-a l = 16 - l.a

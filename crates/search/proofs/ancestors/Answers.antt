@@ -1,0 +1,7 @@
+-- `search::ancestors` meets its contract: the search along the path that was gone down.
+use borrow.Author.Rules.{rules}
+use Rattle.path.proofs.Ways.{descend_asks}
+use Rattle.search.proofs.ancestors.Goals as goal
+
+pub descend-requires : goal.descend-requires
+descend-requires c = descend_asks _ c.requires

@@ -1,0 +1,20 @@
+-- `search::parent` meets its contract: level 0 has none; else the last one taken is the only one.
+use borrow.Author.Rules.{rules}
+use mathlib.Core.Path.{ap, sym, ◌∙◌}
+use Rattle.image.specs.Read.{set_of}
+use Rattle.tally.specs.Tallies.{found_list}
+use Rattle.path.proofs.Ways.{descend_asks}
+use Rattle.search.proofs.Tops.{parent_found_lem, parent_none}
+use Rattle.search.proofs.parent.Goals as goal
+
+pub returns-then-level-eq0 : goal.returns-then-level-eq0
+returns-then-level-eq0 c = parent_none _ _ (set_of c.args.img.now) c.if-level-eq0.true
+
+pub descend-requires : goal.descend-requires
+descend-requires c = descend_asks _ c.requires
+
+pub returns-in_default : goal.returns-in_default
+returns-in_default c = ap found_list (sym c.in_default.is) ∙ parent_found_lem c.args.img.now _ _ c.requires c.search-t.ensures
+
+pub returns : goal.returns
+returns c = ap found_list (sym c.in-At.is) ∙ parent_found_lem c.args.img.now _ _ c.requires c.search-t.ensures

@@ -1,0 +1,16 @@
+-- `seats::desk_fits` meets its contract. The invariant: what has been found of the seats before i.
+use Prim.Native.Nat.{ℕ, ◌-◌, ◌≤◌}
+use mathlib.Core.Path.{◌≡◌, sym, ap, ◌∙◌}
+use mathlib.Core.Bool.{Bool, ◌&&◌}
+use lib.ListN.{length}
+use borrow.Author.Tests.{eq-eqb}
+use Rattle.regions.specs.Desk.{seat_at, seat_fits}
+use Rattle.seats.proofs.Fitting.{fits_at, fits_next, fits_all}
+use borrow.Author.Rules.{rules}
+use Rattle.seats.proofs.desk_fits.Given as goal
+
+abbrev pub invariant-loop-i : goal.invariant-loop-i
+invariant-loop-i l = (l.i ≤ 8) × (l.ok ≡ fits_at l.i l.desk)
+
+abbrev pub decreases-loop-i : goal.decreases-loop-i
+decreases-loop-i l = 8 - l.i

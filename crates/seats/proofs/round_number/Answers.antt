@@ -1,0 +1,20 @@
+-- `seats::round_number` meets its contract: by the tests that led to each answer.
+use borrow.Author.Tests.{not-true, not-false, eq-eqb, ne_eqb}
+use Rattle.words.specs.Lists.{first_no}
+use Rattle.seats.proofs.round_number.Goals as goal
+
+pub returns-then-not-images : goal.returns-then-not-images
+unfolding first_no
+returns-then-not-images c = simp (not-true c.args.images c.if-not-images.true-raw)
+
+pub returns-then-not-desk : goal.returns-then-not-desk
+unfolding first_no
+returns-then-not-desk c = simp (not-false c.args.images c.if-not-images.false-raw, not-true c.args.desk c.if-not-desk.true-raw)
+
+pub returns-then-words-eq-BUFFER_WORDS : goal.returns-then-words-eq-BUFFER_WORDS
+unfolding first_no
+returns-then-words-eq-BUFFER_WORDS c = simp (not-false c.args.images c.if-not-images.false-raw, not-false c.args.desk c.if-not-desk.false-raw, eq-eqb _ _ c.if-words-eq-BUFFER_WORDS.true)
+
+pub returns : goal.returns
+unfolding first_no
+returns c = simp (not-false c.args.images c.if-not-images.false-raw, not-false c.args.desk c.if-not-desk.false-raw, ne_eqb _ _ c.if-words-eq-BUFFER_WORDS.false)

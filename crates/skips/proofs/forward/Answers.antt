@@ -1,0 +1,34 @@
+use borrow.Author.Rules.{rules}
+use mathlib.Core.Path.{sym, ◌∙◌}
+use lib.ListN.{length}
+use Rattle.words.proofs.Tests.{not_true, not_false}
+use Rattle.image.proofs.Sound.{set_rises}
+use Rattle.leaves.specs.Cursors.{left}
+use Rattle.leaves.proofs.Faces.{faces_few, faces_less}
+use Rattle.skips.specs.Joins.{Before, first_held}
+use Rattle.skips.proofs.Ways.{not_held, may_hold, forward_end, forward_there, forward_on}
+use Rattle.skips.proofs.forward.Goals as goal
+
+pub loop-choice-init : goal.loop-choice-init
+loop-choice-init c = c.requires.before
+
+pub start-requires : goal.start-requires
+start-requires c = faces_few _ c.loop-choice.invariant.faces
+
+pub step-step-requires : goal.step-step-requires
+step-step-requires c = faces_few _ c.loop-choice.invariant.faces
+
+pub returns-in_default : goal.returns-in_default
+returns-in_default c = forward_end c.loop-choice.invariant (set_rises _ c.requires.t) (sym c.step-step.ensures ∙ c.in_default.is)
+
+pub returns-then-is_far : goal.returns-then-is_far
+returns-then-is_far c = c.seek_held.ensures
+
+pub loop-choice-smaller : goal.loop-choice-smaller
+loop-choice-smaller c = faces_less _ _ _ _ _ c.loop-choice.invariant.faces (sym c.step-step.ensures ∙ c.in-Next.is)
+
+pub loop-choice-preserved : goal.loop-choice-preserved
+loop-choice-preserved c = forward_on c.loop-choice.invariant (set_rises _ c.requires.t) _ _ (sym c.step-step.ensures ∙ c.in-Next.is) (not_held _ _ _ _ _ c.start.ensures c.in_time.ensures (not_true c.in_time.result c.loop-choice-test.true-raw))
+
+pub returns : goal.returns
+returns c = forward_there c.loop-choice.invariant (set_rises _ c.requires.t) (may_hold _ _ _ _ _ c.start.ensures c.in_time.ensures (not_false c.in_time.result c.loop-choice-test.false-raw))

@@ -1,0 +1,11 @@
+use mathlib.Core.Path.{◌≡◌, refl}
+use native.Mathlib.Omega.{arith}
+use Rattle.stablists.specs.Pass.{first_region}
+use Rattle.stablists.proofs.Turns.{first_more, first_done}
+use Rattle.stablists.proofs.first_region.Goals as goal
+
+pub loop-d-preserved : goal.loop-d-preserved
+loop-d-preserved c = first_more _ _ _ _ _ c.loop-d-test.true c.child-q.ensures c.loop-d.invariant
+
+pub returns : goal.returns
+returns c = first_done _ _ _ _ _ c.loop-d-test.false c.entry_region.ensures c.loop-d.invariant

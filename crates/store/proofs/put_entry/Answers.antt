@@ -1,0 +1,26 @@
+-- `store::put_entry` meets its contract: six words one behind the other.
+use native.Mathlib.Omega.{arith}
+use native.Mathlib.Numerals.{towards_suc}
+use lib.ListN.{length-set}
+use Rattle.store.specs.Store.{put_entry_at}
+use borrow.Author.Rules.{rules}
+use Rattle.store.proofs.put_entry.Goals as goal
+
+pub bounds-img-b-2 : goal.bounds-img-b-2
+bounds-img-b-2 c = simp length-set (omega arith)
+
+pub bounds-img-b-3 : goal.bounds-img-b-3
+bounds-img-b-3 c = simp length-set (omega arith)
+
+pub bounds-img-b-4 : goal.bounds-img-b-4
+bounds-img-b-4 c = simp length-set (omega arith)
+
+pub bounds-img-b-5 : goal.bounds-img-b-5
+bounds-img-b-5 c = simp length-set (omega arith)
+
+pub bounds-img-b-6 : goal.bounds-img-b-6
+bounds-img-b-6 c = simp length-set (omega arith)
+
+pub returns : goal.returns
+unfolding put_entry_at
+returns c = rw (c.page_at.ensures, c.entry_word.ensures) (simp towards_suc)

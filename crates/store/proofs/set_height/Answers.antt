@@ -1,0 +1,9 @@
+-- `store::set_height` meets its contract: one word is written.
+use borrow.Author.Rules.{rules}
+use mathlib.Core.Path.{refl}
+use Rattle.store.specs.Store.{set_height}
+use Rattle.store.proofs.set_height.Goals as goal
+
+pub returns : goal.returns
+unfolding set_height
+returns c = refl

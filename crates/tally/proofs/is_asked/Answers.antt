@@ -1,0 +1,13 @@
+-- `tally::is_asked` meets its contract, task by task.
+use borrow.Author.Rules.{rules}
+use mathlib.Core.Path.{◌∙◌}
+use Rattle.tally.specs.Tasks.{accepts}
+use Rattle.tally.proofs.is_asked.Goals as goal
+
+pub returns-in-List : goal.returns-in-List
+unfolding accepts
+returns-in-List c = rw c.in-List.is
+
+pub returns-in-Above : goal.returns-in-Above
+unfolding accepts
+returns-in-Above c = c.is_above.ensures ∙ rw c.in-Above.is

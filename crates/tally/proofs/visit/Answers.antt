@@ -1,0 +1,12 @@
+-- `tally::visit` meets its contract: passed by, or written and counted.
+use borrow.Author.Rules.{rules}
+use mathlib.Core.Path.{sym, ◌∙◌}
+use Rattle.words.proofs.Tests.{not_true, not_false}
+use Rattle.tally.proofs.Tallies.{tallied_pass, tallied_take}
+use Rattle.tally.proofs.visit.Goals as goal
+
+pub returns-then-not-is_asked : goal.returns-then-not-is_asked
+returns-then-not-is_asked c = tallied_pass (sym c.is_asked.ensures ∙ not_true c.is_asked.result c.if-not-is_asked.true-raw)
+
+pub returns : goal.returns
+returns c = tallied_take (sym c.is_asked.ensures ∙ not_false c.is_asked.result c.if-not-is_asked.false-raw) c.put_region.ensures
