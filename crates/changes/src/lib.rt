@@ -12,7 +12,7 @@ use regions::Region;
 
 // A save; the account's held regions have been counted.
 pub fn save(img: &mut [u32], account: u32, r: Region, held: [u32; regions::ACCOUNT_COUNT]) -> u32
-    requires t { T (valid img.old) }
+    requires img_valid { T (valid img.old) }
     requires account_value { account < account_count → get_or held account 0 ≡ held_by account (set_of img.old) }
     ensures { SavesIn img.old account r result img.new }
 {

@@ -87,7 +87,7 @@ fn level_from(f: Found, level: u32) -> bool
 // WHETHER A REGION CROSSES A HELD ONE, for a region whose start is not held, given what reaches its start: that ends in it, its end is a held start, or what reaches its end
 // starts in it. Of those that reach a position the innermost ends first and starts last, so that it alone is looked at.
 pub fn crosses_held(img: &[u32], r: Region, before: Found) -> bool
-    requires t { T (valid img.now) }
+    requires img_valid { T (valid img.now) }
     requires start_lt_end { r.start < r.end }
     requires img_value { held_at r.start (set_of img.now) ≡ false }
     requires before_value { found_list before ≡ innermost (reach r.start (set_of img.now)) }
@@ -107,7 +107,7 @@ pub fn crosses_held(img: &[u32], r: Region, before: Found) -> bool
 // WHETHER A REGION'S LEVEL CONTRADICTS A HELD ONE'S, for a region that crosses none, given what reaches its start: what does contains it, and of these the innermost has
 // the highest level, so that it alone is looked at. What starts inside lies inside, and is looked at until one contradicts.
 pub fn contradicts_held(img: &[u32], r: Region, before: Found) -> bool
-    requires t { T (valid img.now) }
+    requires img_valid { T (valid img.now) }
     requires start_lt_end { r.start < r.end }
     requires img_value { crossed r (set_of img.now) ≡ false }
     requires before_value { found_list before ≡ innermost (reach r.start (set_of img.now)) }

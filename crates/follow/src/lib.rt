@@ -44,7 +44,7 @@ fn is_over(outer: &[u32], leaf: u32, end: u32, p: u32) -> bool {
 
 // The stack at p, by one descent: the ancestors along p's path, and the cursor in the leaf where it ends.
 fn refill(outer: &[u32], held: &mut [u32], choice: Choice, p: u32) -> Stack
-    requires t { T (valid outer.now) }
+    requires outer_valid { T (valid outer.now) }
     requires held_len { length held.old ≡ held_words }
     ensures { Placed outer.now (too_late choice p) p held.new result }
 {
@@ -65,7 +65,7 @@ pub fn begin(
     mark: Mark,
     p: u32,
 ) -> Stack
-    requires t { T (valid outer.now) }
+    requires outer_valid { T (valid outer.now) }
     requires account_le_last_account { (account ≤ last_account) × (length held.old ≡ held_words) }
     requires account_bound { lowest account ≤ p }
     ensures { Behind outer.now (too_late choice p) p held.new result }
@@ -82,7 +82,7 @@ pub fn begin(
 // On to p: entry by entry, and where one that does not hold p stands leaves before it, by one descent. Most often the entry faced starts too late: only its start is
 // read then.
 fn catch_up(outer: &[u32], held: &mut [u32], choice: Choice, s: Stack, p: u32) -> Stack
-    requires t { T (valid outer.now) }
+    requires outer_valid { T (valid outer.now) }
     requires coming { Coming outer.now (too_late choice p) p held.old s }
     ensures { Placed outer.now (too_late choice p) p held.new result }
 {
@@ -105,7 +105,7 @@ fn catch_up(outer: &[u32], held: &mut [u32], choice: Choice, s: Stack, p: u32) -
 
 // The stack from one place to the next.
 pub fn follow(outer: &[u32], held: &mut [u32], choice: Choice, s: Stack, p: u32) -> Stack
-    requires t { T (valid outer.now) }
+    requires outer_valid { T (valid outer.now) }
     requires behind { Behind outer.now (too_late choice p) p held.old s }
     ensures { Placed outer.now (too_late choice p) p held.new result }
 {

@@ -19,7 +19,7 @@ pub chain_read : {w : List ℕ} {q : ℕ} {ps : List ℕ} (n : ℕ) → Chain w 
 unfolding chain
 chain_read zero c h = absurd (omega arith)
 chain_read (suc n) done h = refl
-chain_read (suc n) (link {q = q} a b c) h = rw (eq_no q 0 (omega arith)) (ap (q ∷◌) (chain_read n c (omega arith)))
+chain_read {w = w} (suc n) (link {q = q} a b c) h = rw (eq_no q 0 (omega arith)) (ap (q ∷◌) (chain_read {q = record_next (record_of w q)} n c (omega arith)))
 
 -- and back: what was followed ended before it had to, all places in range
 pub read_chain : (w : List ℕ) (n q : ℕ) → length (chain n w q) < n → All (λ p. (1 ≤ p) × (p ≤ 500)) (chain n w q) → Chain w q (chain n w q)

@@ -119,7 +119,7 @@ fn apply_all(
     places: &mut [u32],
     counts: [u32; regions::ACCOUNT_COUNT],
 )
-    requires t { T (valid img.old) × Counted counts img.old }
+    requires counted { T (valid img.old) × Counted counts img.old }
     requires in_bounds { items_in items.now ≤ length places.old }
     ensures { AnswersFirst (items_in items.now) img.old items.now places.old img.new places.new }
 {

@@ -52,8 +52,8 @@ fn pairs_from(
     first: Cursor,
     p: u32,
 ) -> usize
-    requires t { T (valid outer.now) }
-    requires t_2 { T (valid inner.now) }
+    requires outer_valid { T (valid outer.now) }
+    requires inner_valid { T (valid inner.now) }
     requires account_le_last_account { (account ≤ last_account) × (first_position account mark < 4294967296) }
     requires faces { Faces inner.now first (filter (starts_from (first_position account mark)) (set_of inner.now).regions) }
     requires p_value { p ≡ start_faced (step_from inner.now first) }
@@ -89,8 +89,8 @@ pub fn pairs_past(
     out: &mut [u32],
     all: bool,
 ) -> usize
-    requires t { T (valid outer.now) }
-    requires t_2 { T (valid inner.now) }
+    requires outer_valid { T (valid outer.now) }
+    requires inner_valid { T (valid inner.now) }
     requires account_le_last_account { account ≤ last_account }
     ensures { Joined (past mark (joined (set_of outer.now) (set_of inner.now) account kind)) all out.old out.new result }
 {

@@ -99,7 +99,7 @@ fn entry_rank(img: &[u32], leaf: u32, choice: Choice, x: u32) -> u32
 // THE CURSOR at the first entry that starts too late to hold x, which strictly is at x or behind it and with self behind it, for those who have x's path: in the leaf
 // where x belongs, else the next leaf's first.
 pub fn seek_along(img: &[u32], way: [u32; 4], choice: Choice, x: u32) -> Cursor
-    requires t { T (valid img.now) }
+    requires img_valid { T (valid img.now) }
     requires way_value { way ≡ padded (path_of img.now x) }
     ensures { Faces img.now result (filter (starts_from (too_late choice x)) (set_of img.now).regions) }
 {

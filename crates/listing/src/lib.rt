@@ -60,7 +60,7 @@ fn take_region(
     held: [u32; regions::ACCOUNT_COUNT],
 ) -> Taken
     requires at_in_bounds { at ≤ length text.now }
-    requires t { T (valid img.old) × Counted held img.old }
+    requires counted { T (valid img.old) × Counted held img.old }
     ensures { Takes text.now at img.old result.number result.next result.held img.new }
 {
     let l = form::read_region(text, at);
@@ -81,7 +81,7 @@ fn take_region(
 // The regions' section, into an image that holds none yet.
 fn read_regions(text: &[u8], line: usize, at: usize, img: &mut [u32]) -> Stand
     requires stands { Stands text.now line at }
-    requires t { T (valid img.old) × ((set_of img.old).regions ≡ []) }
+    requires img_empty { T (valid img.old) × ((set_of img.old).regions ≡ []) }
     ensures { RegionsRead text.now line at img.old result.number result.line result.at img.new }
 {
     let c = form::read_count(text, at, regions::MOST_REGIONS);

@@ -50,7 +50,7 @@ pub fn next_lines(
     words: &mut [u32],
     out: &mut [u8],
 ) -> Batch
-    requires t { T (valid outer.now) × T (valid inner.now) }
+    requires both_valid { T (valid outer.now) × T (valid inner.now) }
     requires account_le_last_account { account ≤ last_account }
     requires words_len { (length words.old ≡ buffer_words) × (11264 ≤ length out.old) }
     ensures { PutsBatch (joined (set_of outer.now) (set_of inner.now) account Ancestor) mark words.old out.old result.bytes result.pairs result.mark words.new out.new }

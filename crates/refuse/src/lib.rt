@@ -20,7 +20,7 @@ fn is_held(img: &[u32], start: u32) -> bool
 
 // Whether an account holds as many regions as its share. They have been counted.
 fn is_full(img: &[u32], account: u32, held: [u32; regions::ACCOUNT_COUNT]) -> bool
-    requires t { T (valid img.now) }
+    requires img_valid { T (valid img.now) }
     requires account_lt_account_count { (account < account_count) × (get_or held account 0 ≡ held_by account (set_of img.now)) }
     ensures { result ≡ leb (share_of account (set_of img.now)) (held_by account (set_of img.now)) }
 {
@@ -31,7 +31,7 @@ fn is_full(img: &[u32], account: u32, held: [u32; regions::ACCOUNT_COUNT]) -> bo
 
 // Of a save; the account's held regions have been counted.
 pub fn save_number(img: &[u32], account: u32, r: Region, held: [u32; regions::ACCOUNT_COUNT]) -> u32
-    requires t { T (valid img.now) }
+    requires img_valid { T (valid img.now) }
     requires account_value { account < account_count → get_or held account 0 ≡ held_by account (set_of img.now) }
     ensures { result ≡ save_no (set_of img.now) account r }
 {

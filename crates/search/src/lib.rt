@@ -41,7 +41,7 @@ fn search_path(
 
 // THE SEARCH of a valid image for the ancestors of p, outermost first, along p's path.
 fn search(img: &[u32], way: [u32; 4], choice: Choice, p: u32, task: Task, out: &mut [u32]) -> Tally
-    requires t { T (valid img.now) }
+    requires img_valid { T (valid img.now) }
     requires way_value { way ≡ padded (path_of img.now p) }
     ensures { Tallied task out.old fresh_tally (ancestors choice p (set_of img.now)) (steps (depth_of img.now) choice p (tree_of img.now)) out.new result }
 {
@@ -50,7 +50,7 @@ fn search(img: &[u32], way: [u32; 4], choice: Choice, p: u32, task: Task, out: &
 
 // ANCESTOR SEARCH of a valid image along p's path, for those who have it: as many as fit, their total, and the steps made.
 pub fn ancestors_along(img: &[u32], way: [u32; 4], choice: Choice, p: u32, out: &mut [u32]) -> Tally
-    requires t { T (valid img.now) }
+    requires img_valid { T (valid img.now) }
     requires way_value { way ≡ padded (path_of img.now p) }
     ensures { AncestorsFound (ancestors choice p (set_of img.now)) (steps (depth_of img.now) choice p (tree_of img.now)) out.old out.new result }
 {

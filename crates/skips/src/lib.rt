@@ -59,7 +59,7 @@ fn seek_held(img: &[u32], choice: Choice, x: u32) -> Cursor
 
 // The same from a cursor before it: entry by entry, and where the leaf does not reach x, by a descent.
 fn forward(img: &[u32], on: Cursor, choice: Choice, x: u32) -> Cursor
-    requires t { T (valid img.now) }
+    requires img_valid { T (valid img.now) }
     requires before { Before img.now (first_held choice x) on }
     ensures { Faces img.now result (filter (starts_from (first_held choice x)) (set_of img.now).regions) }
 {
@@ -80,8 +80,8 @@ fn forward(img: &[u32], on: Cursor, choice: Choice, x: u32) -> Cursor
 // To the next d. Where no outer region holds p, none holds a position before the next outer start, nor strictly that start itself: what stands up to there is skipped. A
 // region that opens there holds what comes behind it, and with self its own start. (As long as one holds p, it may hold the next d, however few outer regions are left.)
 pub fn next_d(outer: &[u32], inner: &[u32], choice: Choice, p: u32, s: Stack, on: Cursor) -> Cursor
-    requires t { T (valid outer.now) }
-    requires t_2 { T (valid inner.now) }
+    requires outer_valid { T (valid outer.now) }
+    requires inner_valid { T (valid inner.now) }
     requires faces { Faces outer.now s.cur (filter (starts_from (too_late choice p)) (set_of outer.now).regions) }
     requires faces_2 { Faces inner.now on (filter (starts_from (suc p)) (set_of inner.now).regions) }
     requires p_bound { suc p < 4294967296 }

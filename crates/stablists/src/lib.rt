@@ -129,8 +129,8 @@ fn used_records(img: &[u32]) -> usize
 
 // Whether flags, stored pairs and stab lists are right, and every stab record is in one list or free.
 pub fn lists_right(img: &[u32]) -> bool
-    requires t { T (shapely img.now) }
-    requires t_2 { T (rule6 (set_of img.now)) }
+    requires img_shapely { T (shapely img.now) }
+    requires rule_6 { T (rule6 (set_of img.now)) }
     ensures { result ≡ lists_right img.now }
 {
     let depth = words::wide(words::word(img, 1)) - 1;

@@ -15,7 +15,7 @@ pub returns-then-not-c : goal.returns-then-not-c
 returns-then-not-c c = no_regions c.args.img.now c.refused-then-not-c.result.held _ c.refused-then-not-c.ensures (sym c.shaped.ensures ∙ not_false c.shaped.result c.if-not-shaped.false-raw) (sym c.take_census-c.ensures.0 ∙ not_true c.take_census-c.result.ok c.if-not-c.true)
 
 pub lists_right-requires : goal.lists_right-requires
-lists_right-requires c = record { t = T_of (sym c.shaped.ensures ∙ not_false c.shaped.result c.if-not-shaped.false-raw); t_2 = T_of (sym c.take_census-c.ensures.0 ∙ not_false c.take_census-c.result.ok c.if-not-c.false) }
+lists_right-requires c = record { img_shapely = T_of (sym c.shaped.ensures ∙ not_false c.shaped.result c.if-not-shaped.false-raw); rule_6 = T_of (sym c.take_census-c.ensures.0 ∙ not_false c.take_census-c.result.ok c.if-not-c.false) }
 
 pub returns-then-not-lists_right : goal.returns-then-not-lists_right
 returns-then-not-lists_right c = no_lists c.args.img.now c.refused-then-not-lists_right.result.held _ c.refused-then-not-lists_right.ensures (sym c.shaped.ensures ∙ not_false c.shaped.result c.if-not-shaped.false-raw) (sym c.take_census-c.ensures.0 ∙ not_false c.take_census-c.result.ok c.if-not-c.false) (sym c.lists_right.ensures ∙ not_true c.lists_right.result c.if-not-lists_right.true-raw)

@@ -7,7 +7,7 @@ pub returns-then-number-ne0 : goal.returns-then-number-ne0
 returns-then-number-ne0 c = record { number_is = c.save_number-number.ensures; refused = λ z. refl; done = λ z. absurd (c.if-number-ne0.true z) }
 
 pub insert-requires : goal.insert-requires
-insert-requires c = (_, c.requires.t, sym c.save_number-number.ensures ∙ c.if-number-ne0.false)
+insert-requires c = (_, c.requires.img_valid, sym c.save_number-number.ensures ∙ c.if-number-ne0.false)
 
 pub returns : goal.returns
 returns c =

@@ -4,7 +4,7 @@ use Rattle.changes.proofs.Counts.{stays_counted, save_counts, save_counted}
 use Rattle.changes.proofs.save_kept.Goals as goal
 
 pub save-number-requires : goal.save-number-requires
-save-number-requires c = record { t = c.requires.0; account_value = c.requires.1.1 _ }
+save-number-requires c = record { img_valid = c.requires.0; account_value = c.requires.1.1 _ }
 
 pub returns-then-number-ne0 : goal.returns-then-number-ne0
 returns-then-number-ne0 c =

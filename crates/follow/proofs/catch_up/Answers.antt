@@ -24,10 +24,10 @@ pub shape_of-held-in_default : goal.shape_of-held-in_default
 shape_of-held-in_default c = c.loop-choice.invariant.long ∙ sym c.requires.coming.long
 
 pub returns-in_default : goal.returns-in_default
-returns-in_default c = coming_end c.loop-choice.invariant (set_rises _ c.requires.t) (sym c.step-step.ensures ∙ c.in_default.is)
+returns-in_default c = coming_end c.loop-choice.invariant (set_rises _ c.requires.outer_valid) (sym c.step-step.ensures ∙ c.in_default.is)
 
 pub refill-requires : goal.refill-requires
-refill-requires c = record { t = c.requires.t; held_len = c.loop-choice.invariant.long }
+refill-requires c = record { outer_valid = c.requires.outer_valid; held_len = c.loop-choice.invariant.long }
 
 pub shape_of-held-then-is_over : goal.shape_of-held-then-is_over
 shape_of-held-then-is_over c = c.refill.ensures.long ∙ sym c.requires.coming.long
@@ -36,16 +36,16 @@ pub returns-then-is_over : goal.returns-then-is_over
 returns-then-is_over c = c.refill.ensures
 
 pub push-n-requires : goal.push-n-requires
-push-n-requires c = record { n_lt_most_around = coming_room c.loop-choice.invariant (set_rises _ c.requires.t) _ _ (sym c.step-step.ensures ∙ c.in-Next.is) (valid_sound _ (λ i. omega (arith, c.shared_slice_known-1.given i)) c.requires.t) (in_time _ _ _ _ _ c.start.ensures c.in_time.ensures c.loop-choice-test.true) (late_near _ _).1; held_len = c.loop-choice.invariant.long }
+push-n-requires c = record { n_lt_most_around = coming_room c.loop-choice.invariant (set_rises _ c.requires.outer_valid) _ _ (sym c.step-step.ensures ∙ c.in-Next.is) (valid_sound _ (λ i. omega (arith, c.shared_slice_known-1.given i)) c.requires.outer_valid) (in_time _ _ _ _ _ c.start.ensures c.in_time.ensures c.loop-choice-test.true) (late_near _ _).1; held_len = c.loop-choice.invariant.long }
 
 pub loop-choice-smaller : goal.loop-choice-smaller
 loop-choice-smaller c = faces_less _ _ _ _ _ c.loop-choice.invariant.faces (sym c.step-step.ensures ∙ c.in-Next.is)
 
 pub loop-choice-preserved : goal.loop-choice-preserved
-loop-choice-preserved c = coming_on c.loop-choice.invariant (set_rises _ c.requires.t) _ _ (sym c.step-step.ensures ∙ c.in-Next.is) _ _ (in_time _ _ _ _ _ c.start.ensures c.in_time.ensures c.loop-choice-test.true) c.push-n.auto.0 c.push-n.ensures
+loop-choice-preserved c = coming_on c.loop-choice.invariant (set_rises _ c.requires.outer_valid) _ _ (sym c.step-step.ensures ∙ c.in-Next.is) _ _ (in_time _ _ _ _ _ c.start.ensures c.in_time.ensures c.loop-choice-test.true) c.push-n.auto.0 c.push-n.ensures
 
 pub shape_of-held : goal.shape_of-held
 shape_of-held c = c.loop-choice.invariant.long ∙ sym c.requires.coming.long
 
 pub returns : goal.returns
-returns c = coming_there c.loop-choice.invariant (set_rises _ c.requires.t) (too_late_lem _ _ _ _ _ c.start.ensures c.in_time.ensures c.loop-choice-test.false)
+returns c = coming_there c.loop-choice.invariant (set_rises _ c.requires.outer_valid) (too_late_lem _ _ _ _ _ c.start.ensures c.in_time.ensures c.loop-choice-test.false)

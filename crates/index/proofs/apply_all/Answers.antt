@@ -11,7 +11,7 @@ use Rattle.index.proofs.Batched.{answers_none, answers_more, answers_all}
 use Rattle.index.proofs.apply_all.Goals as goal
 
 pub loop-i-init : goal.loop-i-init
-loop-i-init c = (omega arith, c.requires.t.0, c.requires.t.1, answers_none _ _ _, refl, refl)
+loop-i-init c = (omega arith, c.requires.counted.0, c.requires.counted.1, answers_none _ _ _, refl, refl)
 
 pub item_region-r-requires : goal.item_region-r-requires
 item_region-r-requires c = omega (arith, c.loop-i-test.true)

@@ -17,7 +17,7 @@ returns-then-places-items c = room_refused c.args.img.now c.args.items.now c.arg
 
 pub apply_all-requires : goal.apply_all-requires
 apply_all-requires c = let v = (sym c.audit-report.ensures.decides ∙ not_false c.audit-report.result.ok c.if-not-report.false) in
-    record { t = (T_of v, (search rules, c.audit-report.ensures.counts v)); in_bounds = omega (arith, c.if-places-items.false) }
+    record { counted = (T_of v, (search rules, c.audit-report.ensures.counts v)); in_bounds = omega (arith, c.if-places-items.false) }
 
 pub returns : goal.returns
 returns c = all_answered c.args.img.now c.args.items.now c.args.places.now (sym c.audit-report.ensures.decides ∙ not_false c.audit-report.result.ok c.if-not-report.false) _ _ c.if-items-ne0.false (omega (arith, c.if-places-items.false)) c.apply_all.ensures

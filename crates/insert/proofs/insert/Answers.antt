@@ -6,7 +6,7 @@ use Rattle.insert.proofs.Entered.{enter_asks, depth_asks, spread_asks, top_asks,
 use Rattle.insert.proofs.insert.Goals as goal
 
 pub descend-path-requires : goal.descend-path-requires
-descend-path-requires c = descend_asks _ c.requires.1
+descend-path-requires c = let asked = descend_asks _ c.requires.1 in record { bound = asked.0; fills = asked.1 }
 
 pub put_entry-requires : goal.put_entry-requires
 put_entry-requires c = enter_asks _ (λ i. omega (arith, c.slice_known-1.given i)) _ _ c.requires.1 c.requires.2 (omega (arith, c.well_formed)) _ c.descend-path.ensures

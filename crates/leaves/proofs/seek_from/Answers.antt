@@ -5,7 +5,7 @@ use Rattle.path.proofs.Ways.{descend_asks}
 use Rattle.leaves.proofs.seek_from.Goals as goal
 
 pub descend-requires : goal.descend-requires
-descend-requires c = descend_asks _ c.requires
+descend-requires c = let asked = descend_asks _ c.requires in record { bound = asked.0; fills = asked.1 }
 
 pub returns : goal.returns
 unfolding too_late

@@ -2,9 +2,9 @@
 use borrow.Author.Rules.{rules}
 use borrow.Author.Tests.{not-true, not-false}
 use mathlib.Core.Path.{◌∙◌}
-use mathlib.Core.Logic.{⊎_elim}
 use Rattle.passes.proofs.Events.{leaf_dead, leaf_no, leaf_first, leaf_next}
 use Rattle.passes.proofs.pass_leaf.Goals as goal
+use Rattle.passes.proofs.pass_leaf.Goals.{then-link-ne0+else-link-wide, else-link-ne0}
 
 pub returns-then-not-s : goal.returns-then-not-s
 returns-then-not-s c = c.failed.ensures ∙ leaf_dead _ _ _ (not-true _ c.if-not-s.true)
@@ -16,7 +16,7 @@ returns-then-link-wide c =
 
 pub returns : goal.returns
 returns c =
-    ⊎_elim
-    (λ w. leaf_next _ _ _ _ _ (not-false _ c.if-not-s.false) w.1.ensures c.wide-2.ensures w.0.taken w.2.left)
-    (λ w. leaf_first _ _ _ _ (not-false _ c.if-not-s.false) c.wide-2.ensures w.left)
-    c.if-link-ne0.branch
+    elim c.if-link-ne0.branch [
+    | then-link-ne0+else-link-wide w ↦ leaf_next _ _ _ _ _ (not-false _ c.if-not-s.false) w.wide.ensures c.wide-2.ensures w.if-link-ne0.true w.if-link-wide.false
+    | else-link-ne0 w ↦ leaf_first _ _ _ _ (not-false _ c.if-not-s.false) c.wide-2.ensures w.if-link-ne0.false
+    ]

@@ -18,10 +18,9 @@ pub returns-then-account-gt-LAST_ACCOUNT : goal.returns-then-account-gt-LAST_ACC
 returns-then-account-gt-LAST_ACCOUNT c = join-refused c.args.outer.now c.args.inner.now c.args.account _ _ 3 (λ z. omega arith) (join-foreign (valid c.args.outer.now) (valid c.args.inner.now) c.args.account (sym c.is_valid.ensures ∙ not_false c.is_valid.result c.if-not-is_valid.false-raw) (sym c.is_valid-2.ensures ∙ not_false c.is_valid-2.result c.if-not-is_valid-2.false-raw) c.if-account-gt-LAST_ACCOUNT.true)
 
 pub pairs_past-total-requires : goal.pairs_past-total-requires
-pairs_past-total-requires c =
-    let outer_valid = T_of (sym c.is_valid.ensures ∙ not_false c.is_valid.result c.if-not-is_valid.false-raw) in
+pairs_past-total-requires c = let asked = let outer_valid = T_of (sym c.is_valid.ensures ∙ not_false c.is_valid.result c.if-not-is_valid.false-raw) in
     let inner_valid = T_of (sym c.is_valid-2.ensures ∙ not_false c.is_valid-2.result c.if-not-is_valid-2.false-raw) in
-    search (outer_valid, inner_valid, c.if-account-gt-LAST_ACCOUNT.false)
+    search (outer_valid, inner_valid, c.if-account-gt-LAST_ACCOUNT.false) in record { outer_valid = asked.0; inner_valid = asked.1; account_le_last_account = asked.2 }
 
 pub returns : goal.returns
 returns c = join-found c.args.outer.now c.args.inner.now c.args.account _ _ _ _ (sym c.is_valid.ensures ∙ not_false c.is_valid.result c.if-not-is_valid.false-raw) (sym c.is_valid-2.ensures ∙ not_false c.is_valid-2.result c.if-not-is_valid-2.false-raw) c.if-account-gt-LAST_ACCOUNT.false c.pairs_past-total.ensures

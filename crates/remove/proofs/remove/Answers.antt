@@ -6,7 +6,7 @@ use Rattle.remove.proofs.Removing.{take_asks, high_enough, leaf_done, mend_asks,
 use Rattle.remove.proofs.remove.Goals as goal
 
 pub descend-path-requires : goal.descend-path-requires
-descend-path-requires c = descend_asks _ c.requires.1
+descend-path-requires c = let asked = descend_asks _ c.requires.1 in record { bound = asked.0; fills = asked.1 }
 
 pub take_entry-requires : goal.take_entry-requires
 take_entry-requires c = take_asks _ c.requires.1 (λ i. omega (arith, c.slice_known-1.given i)) _ _ c.requires.2 _ c.descend-path.ensures

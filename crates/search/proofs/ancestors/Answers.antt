@@ -4,4 +4,4 @@ use Rattle.path.proofs.Ways.{descend_asks}
 use Rattle.search.proofs.ancestors.Goals as goal
 
 pub descend-requires : goal.descend-requires
-descend-requires c = descend_asks _ c.requires
+descend-requires c = let asked = descend_asks _ c.requires in record { bound = asked.0; fills = asked.1 }

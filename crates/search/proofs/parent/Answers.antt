@@ -11,7 +11,7 @@ pub returns-then-level-eq0 : goal.returns-then-level-eq0
 returns-then-level-eq0 c = parent_none _ _ (set_of c.args.img.now) c.if-level-eq0.true
 
 pub descend-requires : goal.descend-requires
-descend-requires c = descend_asks _ c.requires
+descend-requires c = let asked = descend_asks _ c.requires in record { bound = asked.0; fills = asked.1 }
 
 pub returns-in_default : goal.returns-in_default
 returns-in_default c = ap found_list (sym c.in_default.is) ∙ parent_found_lem c.args.img.now _ _ c.requires c.search-t.ensures
