@@ -1,5 +1,6 @@
 // Whether the flags of a leaf say rightly which of its regions stand in a list.
 #![tactic(auto)]
+
 ghost use Rattle.std.specs.Prelude.{◌≡◌, ◌<◌};
 ghost use Rattle.words.specs.Lists.{all};
 ghost use Rattle.pages.specs.Layout.{page_of, fill_of};

@@ -49,7 +49,7 @@ module _ {w ws : List ℕ} {j : ℕ} (s : Leaving w ws j) where
 
   pub leaving_long : fill_of ws ≡ suc (j + length (fill_kids [] s.post s.right))
   leaving_long =
-      omega (arith, keys.keys-long w (keys_of ws) _ held_kids, keys_long ws 0 (fill_of ws), length-append s.pre ((s.left, s.key) ∷ fill_kids [] s.post s.right), s.index)
+      omega (arith, keys.keys_long w (keys_of ws) _ held_kids, keys_long ws 0 (fill_of ws), length-append s.pre ((s.left, s.key) ∷ fill_kids [] s.post s.right), s.index)
 
   pub at_key_lem : KeysAt w (keys_of ws) s.pre s.key (fill_kids [] s.post s.right) (key_words_at ws 0)
   at_key_lem = keys_at w (keys_of ws) s.pre (s.left, s.key) (fill_kids [] s.post s.right) (key_words_at ws 0) held_kids

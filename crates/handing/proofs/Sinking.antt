@@ -87,7 +87,7 @@ module _ {w₀ ws : List ℕ} {k : KeyWords} {w page : List ℕ} {rest : KeyWord
   unfolding sunk left_over over_places
   sink_end g s =
       let d = v.done s in
-      let none : length d.todo ≡ 0 = omega (arith, keys.keys-long w (keys_of page) (d.ready ++ d.todo) d.keys_held, keys_long page 0 (fill_of page), length-append d.ready d.todo, d.index, v.fill_is) in
+      let none : length d.todo ≡ 0 = omega (arith, keys.keys_long w (keys_of page) (d.ready ++ d.todo) d.keys_held, keys_long page 0 (fill_of page), length-append d.ready d.todo, d.index, v.fill_is) in
       go d d.todo none d.keys_held d.sunk_is d.over_is d.places_are
     where
       go : (d : Sunk w₀ w page rest i s.h s.n s.ls s.l s.ps) (todo : List (Tree s.h × Key)) → length todo ≡ 0 → KeysHeld w (keys_of page) (d.ready ++ todo)
@@ -176,5 +176,5 @@ module _ {w₀ ws : List ℕ} {k : KeyWords} {w page : List ℕ} {rest : KeyWord
           → over_places s.ls s.l s.ps ≡ over_places todo d.l' d.ps' → ((x : ℕ) → count x d.ps' + count x (key_records (d.ready ++ todo)) ≤ 1)
           → Sunk w₀ w' page' t.from (suc i) s.h s.n s.ls s.l s.ps
       go s d [] held is over places once =
-          absurd (omega (arith, keys.keys-long w (keys_of page) (d.ready ++ []) held, keys_long page 0 (fill_of page), length-append d.ready [], d.index, v.fill_is))
+          absurd (omega (arith, keys.keys_long w (keys_of page) (d.ready ++ []) held, keys_long page 0 (fill_of page), length-append d.ready [], d.index, v.fill_is))
       go s d (c ∷ todo) held is over places once = turned w' page' to t e (omega (arith, v.fill_is)) f o.keys_are s.h s.n s.ls s.l s.ps d c todo held is over places once

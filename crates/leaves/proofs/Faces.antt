@@ -27,7 +27,7 @@ module _ (w : List ℕ) {c : Cursor} {rs : List Region} (f : Faces w c rs) where
   faces_few = ready_few w c f.stands.ready
 
   pub faces_long : length (left w c) ≡ length rs
-  faces_long = ap length f.stands.ahead ∙ sym (length-map f.entries tree.regionOf) ∙ ap length f.regions
+  faces_long = ap length f.stands.ahead ∙ sym (length-map f.entries tree.region_of) ∙ ap length f.regions
 
 -- A STEP hands the first of the regions, and the cursor that it hands has the others before it
 pub record Onward (w : List ℕ) (rs : List Region) (e : Entry) (on : Cursor) : Type 0 where
@@ -38,7 +38,7 @@ pub record Onward (w : List ℕ) (rs : List Region) (e : Entry) (on : Cursor) : 
 pub faces_on : (w : List ℕ) (c : Cursor) (rs : List Region) (e : Entry) (on : Cursor) → Faces w c rs → step_from w c ≡ Next e on → Onward w rs e on
 faces_on w c rs e on f s = go f.entries f.stands f.regions
   where
-    go : (es : List tree.Entry) → Stands w c es → map tree.regionOf es ≡ rs → Onward w rs e on
+    go : (es : List tree.Entry) → Stands w c es → map tree.region_of es ≡ rs → Onward w rs e on
     go [] st m = absurd (never (step_from w c) e on (stands_end w c st) s)
     go (x ∷ es) st m =
         let k = stands_step w c x es st in
@@ -46,8 +46,8 @@ faces_on w c rs e on f s = go f.entries f.stands f.regions
         let a : handed x ≡ e = cc in
         let b : moved_on w c ≡ on = cc in
         record {
-          rest = map tree.regionOf es;
-          is = sym m ∙ ap (λ (y : Entry). y.region ∷ map tree.regionOf es) a;
+          rest = map tree.region_of es;
+          is = sym m ∙ ap (λ (y : Entry). y.region ∷ map tree.region_of es) a;
           faces = record { entries = es; stands = subst (λ (d : Cursor). Stands w d es) b k.1; regions = refl };
         }
 
@@ -55,7 +55,7 @@ faces_on w c rs e on f s = go f.entries f.stands f.regions
 pub faces_end : (w : List ℕ) (c : Cursor) (rs : List Region) → Faces w c rs → step_from w c ≡ End → rs ≡ []
 faces_end w c rs f s = go f.entries f.stands f.regions
   where
-    go : (es : List tree.Entry) → Stands w c es → map tree.regionOf es ≡ rs → rs ≡ []
+    go : (es : List tree.Entry) → Stands w c es → map tree.region_of es ≡ rs → rs ≡ []
     go [] st m = sym m
     go (x ∷ es) st m = absurd (never (step_from w c) (handed x) (moved_on w c) s (stands_step w c x es st).0)
 

@@ -25,7 +25,7 @@ unfolding leaves_from
 chain_read zero done l = refl
 chain_read (suc n) done l = refl
 chain_read zero (link a b c k) l = absurd (omega arith)
-chain_read (suc n) (link {q = q} a b c k) l = rw (eq_no q 0 (omega arith)) (ap (q ∷◌) (chain_read n k (omega arith)))
+chain_read {w = w} (suc n) (link {q = q} a b c k) l = rw (eq_no q 0 (omega arith)) (ap (q ∷◌) (chain_read {q = next_of (page_of w q)} n k (omega arith)))
 
 leaves_few : (n : ℕ) (w : List ℕ) (q : ℕ) → length (leaves_from n w q) ≤ n
 unfolding leaves_from

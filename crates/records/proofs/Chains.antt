@@ -49,7 +49,7 @@ unfolding count
 chain_once done x = omega arith
 chain_once (link {q = q} {ps = ps} l u t) x =
     elim (ℕ_discrete x q) [
-      | yes e ↦ rw e (omega (arith, count_same q ps, chain_fresh l u t))
+      | yes e ↦ omega (arith, ap (λ y. count y (q ∷ ps)) e, count_same q ps, chain_fresh l u t)
       | no n ↦ omega (arith, count_other x q ps n, chain_once t x)
     ]
 

@@ -2,6 +2,7 @@
 // The image's shape and regions are known to be right, so that a key's list is what lies between the keys around it: no key has to be compared
 // with the keys of the pages above.
 #![tactic(auto)]
+
 ghost use Rattle.std.specs.Prelude.{◌≡◌, ◌&&◌, ◌<◌, T, eqb};
 ghost use Rattle.xrtree.specs.Rules.{pair_right, rule6};
 ghost use Rattle.pages.specs.Layout.{page_of, record_count};

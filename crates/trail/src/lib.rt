@@ -1,5 +1,6 @@
 // A stab list followed record by record along the regions that belong in it, as they are met in the tree from left to right.
 #![tactic(auto)]
+
 ghost use Rattle.std.specs.Prelude.{◌≡◌};
 ghost use Rattle.xrtree.specs.Rules.{same_region};
 ghost use Rattle.trail.specs.Pass.{bad, is_home, step, meet, follow, regions_at, Fills, begun, ended};

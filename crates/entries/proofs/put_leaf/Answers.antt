@@ -7,25 +7,27 @@ use Rattle.pages.specs.Layout.{page_of, fill_of}
 use Rattle.entries.proofs.Halves.{room_for, put_leaf_done}
 use Rattle.entries.proofs.put_leaf.Goals as goal
 
+room : (c : goal.After-entries_before-i) → let s = c.args in (c.entries_before-i.result ≤ fill_of (page_of s.img.now s.leaf)) × (fill_of (page_of s.img.now s.leaf) ≤ 8) × (1 ≤ s.leaf) × (s.leaf ≤ 160)
+room c = room_for _ _ _ _ c.entries_before-i.ensures c.requires
+
 pub entry_word-requires : goal.entry_word-requires
-entry_word-requires c = let room : let s = c.args in (c.entries_before-i.result ≤ fill_of (page_of s.img.now s.leaf)) × (fill_of (page_of s.img.now s.leaf) ≤ 8) × (1 ≤ s.leaf) × (s.leaf ≤ 160) = room_for _ _ _ _ c.entries_before-i.ensures c.requires in let h = room in omega arith
+entry_word-requires c = let h = room c.before.before in omega arith
 
 pub overflow_add-gap : goal.overflow_add-gap
-overflow_add-gap c = let room : let s = c.args in (c.entries_before-i.result ≤ fill_of (page_of s.img.now s.leaf)) × (fill_of (page_of s.img.now s.leaf) ≤ 8) × (1 ≤ s.leaf) × (s.leaf ≤ 160) = room_for _ _ _ _ c.entries_before-i.ensures c.requires in let h = room in omega arith
+overflow_add-gap c = let h = room c.before.before.before in omega arith
 
 pub overflow_sub-run : goal.overflow_sub-run
-overflow_sub-run c = let room : let s = c.args in (c.entries_before-i.result ≤ fill_of (page_of s.img.now s.leaf)) × (fill_of (page_of s.img.now s.leaf) ≤ 8) × (1 ≤ s.leaf) × (s.leaf ≤ 160) = room_for _ _ _ _ c.entries_before-i.ensures c.requires in let h = room in omega arith
+overflow_sub-run c = let h = room c.before.before.before.before in omega arith
 
 pub move_up-requires : goal.move_up-requires
-move_up-requires c = let room : let s = c.args in record { img_len = c.entries_before-i.result ≤ fill_of (page_of s.img.now s.leaf)) × (fill_of (page_of s.img.now s.leaf) ≤ 8) × (1 ≤ s.leaf) × (s.leaf ≤ 160) = room_for _ _ _ _ c.entries_before-i.ensures c.requires in let h = room in (search rules; n_bound = omega arith }
+move_up-requires c = let h = room c.before.before.before.before.before in record { img_len = search rules; n_bound = omega arith }
 
 pub put_entry-requires : goal.put_entry-requires
-put_entry-requires c = let room : let s = c.args in record { img_len = c.entries_before-i.result ≤ fill_of (page_of s.img.now s.leaf)) × (fill_of (page_of s.img.now s.leaf) ≤ 8) × (1 ≤ s.leaf) × (s.leaf ≤ 160) = room_for _ _ _ _ c.entries_before-i.ensures c.requires in let h = room in (search rules; le_p = (h.2, h.3, omega arith) }
+put_entry-requires c = let h = room c.before.before.before.before.before.before.before.before.before in record { img_len = search rules; le_p = (h.2, h.3, omega arith) }
 
 pub set_fill-requires : goal.set_fill-requires
-set_fill-requires c = let room : let s = c.args in record { img_len = c.entries_before-i.result ≤ fill_of (page_of s.img.now s.leaf)) × (fill_of (page_of s.img.now s.leaf) ≤ 8) × (1 ≤ s.leaf) × (s.leaf ≤ 160) = room_for _ _ _ _ c.entries_before-i.ensures c.requires in
-    let h = room in
-    (search rules; le_p = (h.2, h.3) }
+set_fill-requires c = let h = room c.before.before.before.before.before.before.before.before.before.before.before.before.before in
+    record { img_len = search rules; le_p = (h.2, h.3) }
 
 pub returns : goal.returns
 returns c =

@@ -1,5 +1,4 @@
 -- `flags::flag_right` meets its contract: the flag is compared with the one that the bounds ask.
-use borrow.Author.Rules.{rules}
 use mathlib.Core.Path.{refl, sym, ◌∙◌}
 use mathlib.Core.Bool.{true, false}
 use Rattle.flags.proofs.Cases.{flag_code}

@@ -1,12 +1,8 @@
-use Prim.Native.Nat.{◌≤◌, ◌-◌}
+-- What is left of the flags decides: a flag that is wrong ends the loop, and a right one leaves it to the rest.
+use Prim.Native.Nat.{◌-◌}
 use mathlib.Core.Path.{◌≡◌, ◌∙◌}
-use borrow.Author.Rules.{rules}
-use borrow.Author.Tests.{not-true, not-false}
 use native.Mathlib.Omega.{arith}
-use Rattle.words.specs.Lists.{all}
-use Rattle.pages.specs.Layout.{page_of, fill_of}
-use Rattle.image.specs.Read.{entries_from}
-use Rattle.flags.specs.Pass.{flag_here}
+use Rattle.pages.specs.Layout.{page_of}
 use Rattle.flags.proofs.Loop.{flags_more, flags_no, flags_done}
 use Rattle.flags.proofs.flags_right.Goals as goal
 
@@ -15,21 +11,17 @@ loop-i-init c =
     let z : c.wide-n.result - 0 ≡ c.wide-n.result = omega arith in
     (omega arith, c.wide-n.ensures ∙ c.fill.ensures, rw z)
 
-pub flag_right-requires : goal.flag_right-requires
-flag_right-requires c = omega (arith, c.requires.0)
-
 pub returns-then-not-flag_right : goal.returns-then-not-flag_right
 returns-then-not-flag_right c =
     rw (← c.loop-i.invariant.1)
-    (flags_no _ _ (page_of c.args.img.now c.args.p) _ _ _ _ c.flag_right.ensures c.loop-i-test.true (not-true _ c.if-not-flag_right.true-raw) c.loop-i.invariant.2)
+    (flags_no _ _ (page_of c.args.img.now c.args.p) _ _ _ _ c.flag_right.ensures c.loop-i-test.true c.if-not-flag_right.true c.loop-i.invariant.2)
 
 pub loop-i-preserved : goal.loop-i-preserved
-loop-i-preserved c =
-    (
-      omega arith,
-      c.loop-i.invariant.1,
-      flags_more _ _ (page_of c.args.img.now c.args.p) _ _ _ _ c.flag_right.ensures c.loop-i-test.true (c.if-not-flag_right.false) c.loop-i.invariant.2,
-    )
+loop-i-preserved c = (
+  omega arith,
+  c.loop-i.invariant.1,
+  flags_more _ _ (page_of c.args.img.now c.args.p) _ _ _ _ c.flag_right.ensures c.loop-i-test.true c.if-not-flag_right.false c.loop-i.invariant.2,
+)
 
 pub returns : goal.returns
 returns c =

@@ -1,14 +1,10 @@
 -- `flags::flags_right` meets its contract. The loop's invariant: what is left of the flags decides.
 use Prim.Native.Nat.{◌≤◌, ◌-◌}
-use mathlib.Core.Path.{◌≡◌, ◌∙◌}
-use borrow.Author.Rules.{rules}
-use borrow.Author.Tests.{not-true, not-false}
-use native.Mathlib.Omega.{arith}
+use mathlib.Core.Path.{◌≡◌}
 use Rattle.words.specs.Lists.{all}
 use Rattle.pages.specs.Layout.{page_of, fill_of}
 use Rattle.image.specs.Read.{entries_from}
 use Rattle.flags.specs.Pass.{flag_here}
-use Rattle.flags.proofs.Loop.{flags_more, flags_no, flags_done}
 use Rattle.flags.proofs.flags_right.Given as goal
 
 abbrev pub invariant-loop-i : goal.invariant-loop-i

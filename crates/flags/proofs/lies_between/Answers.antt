@@ -1,5 +1,4 @@
 -- `flags::lies_between` meets its contract: start, then end.
-use borrow.Author.Rules.{rules}
 use Rattle.flags.proofs.Cases.{between_not, between_is}
 use Rattle.flags.proofs.lies_between.Goals as goal
 

@@ -1,6 +1,4 @@
-use mathlib.Core.Path.{◌≡◌, refl}
-use native.Mathlib.Omega.{arith}
-use Rattle.stablists.specs.Pass.{first_region}
+-- Down to the leftmost child by a turn each, and there its first entry.
 use Rattle.stablists.proofs.Turns.{first_more, first_done}
 use Rattle.stablists.proofs.first_region.Goals as goal
 

@@ -1,8 +1,6 @@
 -- `stablists::first_region` meets its contract. The loop's invariant: the leftmost region below the page reached is the one that is looked for.
-use mathlib.Core.Path.{◌≡◌, refl}
-use native.Mathlib.Omega.{arith}
+use mathlib.Core.Path.{◌≡◌}
 use Rattle.stablists.specs.Pass.{first_region}
-use Rattle.stablists.proofs.Turns.{first_more, first_done}
 use Rattle.stablists.proofs.first_region.Given as goal
 
 abbrev pub invariant-loop-d : goal.invariant-loop-d

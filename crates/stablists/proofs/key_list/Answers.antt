@@ -1,6 +1,4 @@
 -- `stablists::key_list` meets its contract: pair, regions on the left, first region on the right, end.
-use borrow.Author.Rules.{rules}
-use borrow.Author.Tests.{not-true, not-false}
 use mathlib.Core.Path.{sym, ◌∙◌}
 use Rattle.pages.specs.Layout.{page_of}
 use Rattle.stablists.proofs.Turns.{key_no, key_on}
@@ -8,10 +6,7 @@ use Rattle.stablists.proofs.key_list.Goals as goal
 
 pub returns-then-not-pair_right : goal.returns-then-not-pair_right
 returns-then-not-pair_right c =
-    c.failed.ensures ∙ key_no _ _ (page_of c.args.img.now c.args.p) _ _ _ _ (sym c.pair_right.ensures ∙ not-true _ c.if-not-pair_right.true-raw)
-
-pub meet_tree-under-requires : goal.meet_tree-under-requires
-meet_tree-under-requires c = rw c.child.ensures c.requires.fills_below
+    c.failed.ensures ∙ key_no _ _ (page_of c.args.img.now c.args.p) _ _ _ _ (sym c.pair_right.ensures ∙ c.if-not-pair_right.true)
 
 pub returns : goal.returns
 returns c =

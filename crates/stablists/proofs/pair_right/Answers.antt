@@ -1,5 +1,4 @@
 -- `stablists::pair_right` meets its contract: a list is empty exactly where its head is 0, and else its first region is the head's.
-use borrow.Author.Rules.{rules}
 use Rattle.pages.specs.Layout.{page_of}
 use Rattle.stablists.proofs.Ways.{pair_code_none, pair_code_first}
 use Rattle.stablists.proofs.pair_right.Goals as goal

@@ -1,6 +1,5 @@
-use Prim.Native.Nat.{◌≤◌, ◌-◌}
-use mathlib.Core.Path.{◌≡◌, refl}
-use borrow.Author.Rules.{rules}
+-- The count goes on by one at a used place and stays at a free one.
+use mathlib.Core.Path.{refl}
 use native.Mathlib.Omega.{arith}
 use Rattle.stablists.specs.Pass.{used_to}
 use Rattle.stablists.proofs.Turns.{used_yes, used_no}
@@ -15,6 +14,3 @@ loop-q-preserved-then-record_end-ne0 c = (omega arith, omega arith, used_yes _ _
 
 pub loop-q-preserved : goal.loop-q-preserved
 loop-q-preserved c = (omega arith, omega arith, used_no _ _ _ _ c.record_end.ensures c.if-record_end-ne0.false c.loop-q.invariant.2)
-
-pub returns : goal.returns
-returns c = let e : c.loop-q.q ≡ 500 = omega arith in rw e at c.loop-q.invariant.2

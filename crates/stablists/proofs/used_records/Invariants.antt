@@ -1,10 +1,7 @@
 -- `stablists::used_records` meets its contract. The loop's invariant: n of the places up to q are used.
 use Prim.Native.Nat.{◌≤◌, ◌-◌}
-use mathlib.Core.Path.{◌≡◌, refl}
-use borrow.Author.Rules.{rules}
-use native.Mathlib.Omega.{arith}
+use mathlib.Core.Path.{◌≡◌}
 use Rattle.stablists.specs.Pass.{used_to}
-use Rattle.stablists.proofs.Turns.{used_yes, used_no}
 use Rattle.stablists.proofs.used_records.Given as goal
 
 abbrev pub invariant-loop-q : goal.invariant-loop-q

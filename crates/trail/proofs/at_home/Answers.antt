@@ -1,5 +1,4 @@
 -- `trail::at_home` meets its contract: start and end are compared with the bounds in turn.
-use borrow.Author.Rules.{rules}
 use Rattle.trail.proofs.Cases.{home_early, home_late, home_short, home_is}
 use Rattle.trail.proofs.at_home.Goals as goal
 

@@ -1,5 +1,4 @@
 -- `trail::begin_list` meets its contract: a failure stays one.
-use borrow.Author.Rules.{rules}
 use mathlib.Core.Path.{◌∙◌}
 use borrow.Author.Tests.{not-true, not-false}
 use Rattle.trail.proofs.Cases.{begun_bad, begun_on}

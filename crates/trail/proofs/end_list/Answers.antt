@@ -1,5 +1,4 @@
 -- `trail::end_list` meets its contract: a list that goes on is a failure.
-use borrow.Author.Rules.{rules}
 use mathlib.Core.Path.{◌∙◌}
 use Rattle.trail.proofs.Cases.{ended_not, ended_is}
 use Rattle.trail.proofs.end_list.Goals as goal

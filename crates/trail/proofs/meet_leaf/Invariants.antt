@@ -1,11 +1,9 @@
 -- `trail::meet_leaf` meets its contract. The loop's invariant: what is left of the entries, followed from here, comes to the whole.
 use Prim.Native.Nat.{◌≤◌, ◌-◌}
-use mathlib.Core.Path.{◌≡◌, ◌∙◌}
-use borrow.Author.Rules.{rules}
-use native.Mathlib.Omega.{arith}
+use mathlib.Core.Path.{◌≡◌}
 use Rattle.pages.specs.Layout.{page_of, fill_of}
 use Rattle.trail.specs.Pass.{follow, regions_at}
-use Rattle.trail.proofs.Loops.{entry_regions, leaf_begin, leaf_more, leaf_done}
+use Rattle.trail.proofs.Loops.{entry_regions}
 use Rattle.trail.proofs.meet_leaf.Given as goal
 
 abbrev pub invariant-loop-i : goal.invariant-loop-i

@@ -1,7 +1,5 @@
 -- `trail::take_record` meets its contract: each test that fails ends the pass, and the last one brings the next record.
-use borrow.Author.Rules.{rules}
 use mathlib.Core.Path.{sym, ◌∙◌}
-use borrow.Author.Tests.{not-true, not-false}
 use Rattle.trail.proofs.Cases.{step_none, step_far, step_spent, step_other, step_on}
 use Rattle.trail.proofs.take_record.Goals as goal
 
@@ -16,7 +14,7 @@ returns-then-left-lt1 c = c.failed-then-left-lt1.ensures ∙ step_spent _ _ _ c.
 
 pub returns-then-not-same_region : goal.returns-then-not-same_region
 returns-then-not-same_region c =
-    c.failed-then-not-same_region.ensures ∙ step_other _ _ _ _ c.if-at-lt1.false c.if-at-gt-RECORD_COUNT.false c.if-left-lt1.false c.record_region.ensures (sym c.same_region.ensures ∙ not-true _ c.if-not-same_region.true-raw)
+    c.failed-then-not-same_region.ensures ∙ step_other _ _ _ _ c.if-at-lt1.false c.if-at-gt-RECORD_COUNT.false c.if-left-lt1.false c.record_region.ensures (sym c.same_region.ensures ∙ c.if-not-same_region.true)
 
 pub returns : goal.returns
 returns c =

@@ -1,7 +1,7 @@
 -- `leaves::Cursor::moved` answers `moved_on`, by its test.
 use borrow.Author.Rules.{rules}
 use Rattle.leaves.proofs.Walks.{moved_in, moved_out}
-use Rattle.leaves.proofs.Cursor/moved.Goals as goal
+use Rattle.leaves.proofs.Cursor.moved.Goals as goal
 
 pub returns-then-at-fill : goal.returns-then-at-fill
 returns-then-at-fill c = moved_in _ _ _ c.fill.ensures c.if-at-fill.true

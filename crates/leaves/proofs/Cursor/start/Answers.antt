@@ -1,7 +1,7 @@
 -- `leaves::Cursor::start` meets its contract: at the end, or at an entry.
 use borrow.Author.Rules.{rules}
 use Rattle.leaves.proofs.Faces.{faced_end, faced_next}
-use Rattle.leaves.proofs.Cursor/start.Goals as goal
+use Rattle.leaves.proofs.Cursor.start.Goals as goal
 
 pub returns-then-leaf-eq0 : goal.returns-then-leaf-eq0
 returns-then-leaf-eq0 c = faced_end _ _ c.if-leaf-eq0.true

@@ -1,7 +1,7 @@
 -- `leaves::Cursor::step` answers `step_from`: the end, or the entry and the cursor moved on.
 use borrow.Author.Rules.{rules}
 use Rattle.leaves.proofs.Walks.{step_end, step_next}
-use Rattle.leaves.proofs.Cursor/step.Goals as goal
+use Rattle.leaves.proofs.Cursor.step.Goals as goal
 
 pub returns-then-leaf-eq0 : goal.returns-then-leaf-eq0
 returns-then-leaf-eq0 c = step_end _ _ c.if-leaf-eq0.true
