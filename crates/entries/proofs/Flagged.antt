@@ -51,12 +51,12 @@ module _ (f : Leaf → Leaf) (s e b : ℕ) (l : s ≤ e)
       (one ∙ sym (ap flag_of (off_t (leb lo s && ltb e hi) (λ x. n (leb→le lo s (and_left (leb lo s) _ x)) (ltb→lt e hi (and_right (leb lo s) _ x)))))) p
   off_tree one (suc h) lo hi t i n p = off_page one h (λ lo hi c i n p. off_tree one h lo hi c i n p) lo hi t.kids t.last i n p
 
-  on_page_lem : (q j h : ℕ) → ((lo hi : ℕ) (c : Tree h) → In h lo hi c → lo ≤ s → e < hi → b ≡ (spot_of s e h c).flag → Claim NoKey FlagsAre h lo hi c → Claim NoKey FlagsAre h lo hi (at_leaf f s h c))
+  on_page_lem : (q h j : ℕ) → ((lo hi : ℕ) (c : Tree h) → In h lo hi c → lo ≤ s → e < hi → b ≡ (spot_of s e h c).flag → Claim NoKey FlagsAre h lo hi c → Claim NoKey FlagsAre h lo hi (at_leaf f s h c))
       → (lo hi : ℕ) (cs : List (Tree h × Key)) (last : Tree h) → InKids (In h) lo hi cs last → lo ≤ s → e < hi → b ≡ (spot_kids (spot_of s e h) s e q j cs last).flag
       → Page NoKey (Claim NoKey FlagsAre h) lo hi cs last → Page NoKey (Claim NoKey FlagsAre h) lo hi (kids_at (at_leaf f s h) s cs last).0 (kids_at (at_leaf f s h) s cs last).1
   unfolding kids_at spot_kids
-  on_page_lem q j h ih lo hi [] last i x y z p = ih lo hi last i x y z p
-  on_page_lem q j h ih lo hi (c ∷ cs) last i x y z p = go (ltb c.1.key s) refl (λ a z. on_page_lem q (suc j) h ih (suc c.1.key) hi cs last i.2 a y z p.2) z
+  on_page_lem q h j ih lo hi [] last i x y z p = ih lo hi last i x y z p
+  on_page_lem q h j ih lo hi (c ∷ cs) last i x y z p = go (ltb c.1.key s) refl (λ a z. on_page_lem q h (suc j) ih (suc c.1.key) hi cs last i.2 a y z p.2) z
     where
       k : ℕ
       k = c.1.key
@@ -84,4 +84,4 @@ module _ (f : Leaf → Leaf) (s e b : ℕ) (l : s ≤ e)
   pub on_tree : (h lo hi : ℕ) (t : Tree h) → In h lo hi t → lo ≤ s → e < hi → b ≡ (spot_of s e h t).flag → Claim NoKey FlagsAre h lo hi t → Claim NoKey FlagsAre h lo hi (at_leaf f s h t)
   unfolding at_leaf spot_of
   on_tree zero lo hi t i x y z p = keep lo hi t (z ∙ sym (rw (le_yes lo s x, lt_yes e hi y))) p
-  on_tree (suc h) lo hi t i x y z p = on_page_lem t.place 0 h (λ lo hi c i x y z p. on_tree h lo hi c i x y z p) lo hi t.kids t.last i x y z p
+  on_tree (suc h) lo hi t i x y z p = on_page_lem t.place h 0 (λ lo hi c i x y z p. on_tree h lo hi c i x y z p) lo hi t.kids t.last i x y z p

@@ -6,8 +6,9 @@ use native.Mathlib.Omega.{arith}
 use Rattle.pages.specs.Layout.{page_of, fill_of}
 use Rattle.entries.proofs.Halves.{room_for, put_leaf_done}
 use Rattle.entries.proofs.put_leaf.Goals as goal
+use Rattle.entries.proofs.put_leaf.Goals.{After-entries_before-i}
 
-room : (c : goal.After-entries_before-i) → let s = c.args in (c.entries_before-i.result ≤ fill_of (page_of s.img.now s.leaf)) × (fill_of (page_of s.img.now s.leaf) ≤ 8) × (1 ≤ s.leaf) × (s.leaf ≤ 160)
+room : (c : After-entries_before-i) → let s = c.args in (c.entries_before-i.result ≤ fill_of (page_of s.img.now s.leaf)) × (fill_of (page_of s.img.now s.leaf) ≤ 8) × (1 ≤ s.leaf) × (s.leaf ≤ 160)
 room c = room_for _ _ _ _ c.entries_before-i.ensures c.requires
 
 pub entry_word-requires : goal.entry_word-requires
