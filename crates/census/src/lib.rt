@@ -1,6 +1,7 @@
 // Decides whether the regions of a rightly shaped image are well formed, nest rightly, with levels that say the same, and keep to their accounts' shares,
 // by one pass in ascending start; and counts what each account holds.
 #![tactic(auto)]
+
 ghost use Rattle.std.specs.Prelude.{◌≡◌, true, false, ℕ, ◌+◌, ◌-◌, ◌<◌, ◌≤◌, T, length, get_or};
 ghost use Rattle.regions.specs.Sets.{held_by};
 ghost use Rattle.xrtree.specs.Rules.{rule6};

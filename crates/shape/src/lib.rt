@@ -1,6 +1,7 @@
 // Decides the first part of an image's validity, its shape: size, fills, links between leaves, order of starts and keys, and that each place of a page
 // is either met once on the walk or marked as unused. The tree is walked from left to right; no place is trusted before it was tested.
 #![tactic(auto)]
+
 ghost use Rattle.std.specs.Prelude.{◌≡◌, ◌≤◌};
 ghost use Rattle.pages.specs.Layout.{page_of, fill_of, page_count};
 ghost use Rattle.image.specs.Shape.{shapely};

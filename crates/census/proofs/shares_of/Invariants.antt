@@ -1,10 +1,7 @@
 -- `census::shares_of` meets its contract. Each word that was passed is a share.
 use Prim.Native.Nat.{ℕ, ◌<◌, ◌+◌, ◌-◌}
-use mathlib.Core.Path.{◌≡◌, refl, ◌∙◌}
-use native.Mathlib.Omega.{arith}
-use lib.ListN.{length, get_or, length-set}
-use borrow.Author.Rules.{rules}
-use Rattle.census.proofs.Shares.{stored_more, shares_copied}
+use mathlib.Core.Path.{◌≡◌}
+use lib.ListN.{length, get_or}
 use Rattle.census.proofs.shares_of.Given as goal
 
 abbrev pub invariant-loop-i : goal.invariant-loop-i

@@ -1,9 +1,7 @@
 -- `census::taken` meets its contract. Each word that was passed is what was taken of a share.
 use Prim.Native.Nat.{ℕ, ◌<◌, ◌+◌, ◌-◌}
-use mathlib.Core.Path.{◌≡◌, refl, ap₂, ◌∙◌}
-use native.Mathlib.Omega.{arith}
-use lib.ListN.{length, get_or, length-set}
-use Rattle.census.proofs.Shares.{stored_more}
+use mathlib.Core.Path.{◌≡◌}
+use lib.ListN.{length, get_or}
 use Rattle.census.proofs.taken.Given as goal
 
 abbrev pub invariant-loop-i : goal.invariant-loop-i

@@ -1,5 +1,4 @@
 -- `shape::page_right` meets its contract: each early answer is one of the page's tests, the last answer the last test.
-use borrow.Author.Rules.{rules}
 use native.Mathlib.Omega.{arith}
 use Rattle.shape.proofs.Turns.{page_low, page_high, page_free, page_few, page_rest}
 use Rattle.shape.proofs.page_right.Goals as goal

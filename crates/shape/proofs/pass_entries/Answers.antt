@@ -1,5 +1,4 @@
 -- `shape::pass_entries` meets its contract: the head of the leaf, then its starts.
-use borrow.Author.Rules.{rules}
 use Rattle.shape.proofs.Turns.{leaf_run}
 use Rattle.shape.proofs.pass_entries.Goals as goal
 

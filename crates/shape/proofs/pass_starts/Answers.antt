@@ -1,8 +1,4 @@
-use Prim.Native.Nat.{◌-◌, ◌≤◌}
-use mathlib.Core.Path.{◌≡◌}
 use native.Mathlib.Omega.{arith}
-use Rattle.pages.specs.Layout.{page_of}
-use Rattle.shape.specs.Run.{run, start_events}
 use Rattle.shape.proofs.Turns.{starts_begin, starts_more, starts_done}
 use Rattle.shape.proofs.pass_starts.Goals as goal
 

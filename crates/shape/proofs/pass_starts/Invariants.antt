@@ -1,10 +1,8 @@
 -- `shape::pass_starts` meets its contract: the starts still to come, from where the pass stands, come to the same on every turn.
 use Prim.Native.Nat.{◌-◌, ◌≤◌}
 use mathlib.Core.Path.{◌≡◌}
-use native.Mathlib.Omega.{arith}
 use Rattle.pages.specs.Layout.{page_of}
 use Rattle.shape.specs.Run.{run, start_events}
-use Rattle.shape.proofs.Turns.{starts_begin, starts_more, starts_done}
 use Rattle.shape.proofs.pass_starts.Given as goal
 
 abbrev pub invariant-loop-i : goal.invariant-loop-i

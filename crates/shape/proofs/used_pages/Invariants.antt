@@ -1,10 +1,7 @@
 -- `shape::used_pages` meets its contract: what is counted and what is still to count come to the same on every turn.
 use Prim.Native.Nat.{◌+◌, ◌≤◌}
 use mathlib.Core.Path.{◌≡◌}
-use mathlib.Core.Logic.{⊎_elim}
-use native.Mathlib.Omega.{arith}
 use Rattle.shape.specs.Run.{used_to}
-use Rattle.shape.proofs.Turns.{used_none, used_one, used_done}
 use Rattle.shape.proofs.used_pages.Given as goal
 
 abbrev pub invariant-loop-p : goal.invariant-loop-p
