@@ -4,7 +4,7 @@ use Rattle.clashes.proofs.Levels.{level_around, level_inside}
 use Rattle.clashes.proofs.contradicts_held.Goals as goal
 
 pub returns-then-level_from : goal.returns-then-level_from
-returns-then-level_from c = level_around _ _ c.requires.img_valid c.requires.start_lt_end.0 c.requires.start_lt_end.1.0 _ c.requires.start_lt_end.1.1 _ c.level_from.ensures c.if-level_from.true
+returns-then-level_from c = level_around _ _ c.requires.img_valid c.requires.start_lt_end c.requires.img_value _ c.requires.before_value _ c.level_from.ensures c.if-level_from.true
 
 pub returns : goal.returns
-returns c = level_inside _ _ c.requires.img_valid c.requires.start_lt_end.0 c.requires.start_lt_end.1.0 _ c.requires.start_lt_end.1.1 _ _ c.level_from.ensures c.if-level_from.false c.some_up_to.ensures
+returns c = level_inside _ _ c.requires.img_valid c.requires.start_lt_end c.requires.img_value _ c.requires.before_value _ _ c.level_from.ensures c.if-level_from.false c.some_up_to.ensures

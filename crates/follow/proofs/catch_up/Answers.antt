@@ -42,7 +42,7 @@ pub loop-choice-smaller : goal.loop-choice-smaller
 loop-choice-smaller c = faces_less _ _ _ _ _ c.loop-choice.invariant.faces (sym c.step-step.ensures ∙ c.in-Next.is)
 
 pub loop-choice-preserved : goal.loop-choice-preserved
-loop-choice-preserved c = coming_on c.loop-choice.invariant (set_rises _ c.requires.outer_valid) _ _ (sym c.step-step.ensures ∙ c.in-Next.is) _ _ (in_time _ _ _ _ _ c.start.ensures c.in_time.ensures c.loop-choice-test.true) c.push-n.auto.0 c.push-n.ensures
+loop-choice-preserved c = coming_on c.loop-choice.invariant (set_rises _ c.requires.outer_valid) _ _ (sym c.step-step.ensures ∙ c.in-Next.is) _ _ (in_time _ _ _ _ _ c.start.ensures c.in_time.ensures c.loop-choice-test.true) c.push-n.auto.held c.push-n.ensures
 
 pub shape_of-held : goal.shape_of-held
 shape_of-held c = c.loop-choice.invariant.long ∙ sym c.requires.coming.long

@@ -16,7 +16,7 @@ pub set_key-keyed-requires : goal.set_key-keyed-requires
 set_key-keyed-requires c = let v = c.loop-i.invariant in (omega (arith, v.fill_is, c.requires.1), omega (arith, v.fill_is, c.loop-i-test.true, c.wide-n.ensures))
 
 pub loop-i-preserved : goal.loop-i-preserved
-loop-i-preserved c = rw add-one (sink_turn c.loop-i.invariant _ _ _ _ c.lift-lifted.auto.0 c.key_in-to.ensures (omega (arith, c.loop-i-test.true, c.wide-n.ensures)) c.lift-lifted.ensures c.set_key-keyed.ensures)
+loop-i-preserved c = rw add-one (sink_turn c.loop-i.invariant _ _ _ _ c.lift-lifted.auto.img c.key_in-to.ensures (omega (arith, c.loop-i-test.true, c.wide-n.ensures)) c.lift-lifted.ensures c.set_key-keyed.ensures)
 
 pub shape_of-img : goal.shape_of-img
 shape_of-img c = c.loop-i.invariant.long

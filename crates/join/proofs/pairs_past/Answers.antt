@@ -10,7 +10,7 @@ pub start-p-requires : goal.start-p-requires
 start-p-requires c = faces_few _ c.seek_from-first.ensures
 
 pub returns-then-account_of-account : goal.returns-then-account_of-account
-returns-then-account_of-account c = join_none _ _ _ _ _ _ _ _ _ _ _ (set_rises _ c.requires.inner_valid.0) c.first_position.ensures c.seek_from-first.ensures c.start-p.ensures c.account_of.ensures c.if-account_of-account.true
+returns-then-account_of-account c = join_none _ _ _ _ _ _ _ _ _ _ _ (set_rises _ c.requires.inner_valid) c.first_position.ensures c.seek_from-first.ensures c.start-p.ensures c.account_of.ensures c.if-account_of-account.true
 
 pub pairs_from-requires : goal.pairs_from-requires
-pairs_from-requires c = (c.requires.outer_valid, (c.requires.inner_valid.0, ((c.requires.inner_valid.1, omega (arith, c.first_position.ensures)), (rw c.first_position.ensures at c.seek_from-first.ensures, c.start-p.ensures))))
+pairs_from-requires c = record { outer_valid = c.requires.outer_valid; inner_valid = c.requires.inner_valid; account_le_last_account = (c.requires.account_le_last_account, omega (arith, c.first_position.ensures)); faces = rw c.first_position.ensures at c.seek_from-first.ensures; p_value = c.start-p.ensures }

@@ -11,16 +11,16 @@ use Rattle.printout.proofs.Whole.{batch_less, join_ascends}
 use Rattle.listing_join.proofs.print_batches.Goals as goal
 
 pub loop-b-init : goal.loop-b-init
-loop-b-init c = c.requires.account_le_last_account.1
+loop-b-init c = c.requires.pairs_len
 
 pub next_lines-b-requires : goal.next_lines-b-requires
-next_lines-b-requires c = let i = c.loop-b.invariant in (c.requires.t, (c.requires.account_le_last_account.0, (i.0, omega arith)))
+next_lines-b-requires c = let i = c.loop-b.invariant in record { both_valid = c.requires.t; account_le_last_account = c.requires.account_le_last_account; words_len = (i.0, omega arith) }
 
 pub shape_of-pairs-then-b-eq0 : goal.shape_of-pairs-then-b-eq0
-shape_of-pairs-then-b-eq0 c = batch_words_lem c.next_lines-b.ensures ∙ c.loop-b.invariant.0 ∙ sym c.requires.account_le_last_account.1.0
+shape_of-pairs-then-b-eq0 c = batch_words_lem c.next_lines-b.ensures ∙ c.loop-b.invariant.0 ∙ sym c.requires.pairs_len.0
 
 pub shape_of-out-then-b-eq0 : goal.shape_of-out-then-b-eq0
-shape_of-out-then-b-eq0 c = batch_room c.next_lines-b.ensures ∙ c.loop-b.invariant.1 ∙ sym c.requires.account_le_last_account.1.1
+shape_of-out-then-b-eq0 c = batch_room c.next_lines-b.ensures ∙ c.loop-b.invariant.1 ∙ sym c.requires.pairs_len.1
 
 pub slice_bounds-text-end : goal.slice_bounds-text-end
 slice_bounds-text-end c = omega (arith, batch_bytes c.next_lines-b.ensures, batch_room c.next_lines-b.ensures, c.loop-b.invariant.1)

@@ -36,10 +36,10 @@ pub clear_flags-leaf-requires : goal.clear_flags-leaf-requires
 clear_flags-leaf-requires c = let l = loaded c.requires.1.pair c.load_page-page.ensures c.child_in-left.ensures c.child_in-right.ensures in (omega (arith, c.leaf_joined-joined.ensures.fill_is, leaves_fit c.requires.1 c.load_page-page.ensures c.child_in-left.ensures c.child_in-right.ensures c.load_page-a.ensures c.load_page-b.ensures), rest_ends (c.hand_on-handed.ensures l.leaving))
 
 pub drop_list-requires : goal.drop_list-requires
-drop_list-requires c = let long : length c.clear_flags-leaf.result ≡ 57 = search rules in let l = loaded c.requires.1.pair c.load_page-page.ensures c.child_in-left.ensures c.child_in-right.ensures in (c.hand_on-handed.auto.0 ∙ l.long, rest_ends (c.hand_on-handed.ensures l.leaving))
+drop_list-requires c = let long : length c.clear_flags-leaf.result ≡ 57 = search rules in let l = loaded c.requires.1.pair c.load_page-page.ensures c.child_in-left.ensures c.child_in-right.ensures in (c.hand_on-handed.auto.img ∙ l.long, rest_ends (c.hand_on-handed.ensures l.leaving))
 
 pub store_merged-requires : goal.store_merged-requires
-store_merged-requires c = let long : length c.clear_flags-leaf.result ≡ 57 = search rules in let l = loaded c.requires.1.pair c.load_page-page.ensures c.child_in-left.ensures c.child_in-right.ensures in record { img_len = c.drop_list.auto.0 ∙ c.hand_on-handed.auto.0 ∙ l.long; le_left = (l.left_low, l.left_high, l.above_low, l.above_high, l.right_low, l.right_high) }
+store_merged-requires c = let long : length c.clear_flags-leaf.result ≡ 57 = search rules in let l = loaded c.requires.1.pair c.load_page-page.ensures c.child_in-left.ensures c.child_in-right.ensures in record { img_len = c.drop_list.auto.img ∙ c.hand_on-handed.auto.img ∙ l.long; le_left = (l.left_low, l.left_high, l.above_low, l.above_high, l.right_low, l.right_high) }
 
 pub returns : goal.returns
-returns c = let long : length c.clear_flags-leaf.result ≡ 57 = search rules in let l = loaded c.requires.1.pair c.load_page-page.ensures c.child_in-left.ensures c.child_in-right.ensures in leaves_law _ _ _ _ _ _ _ _ _ _ _ _ _ _ c.requires.1 c.load_page-page.ensures c.child_in-left.ensures c.child_in-right.ensures c.load_page-a.ensures c.load_page-b.ensures c.leaf_joined-joined.ensures c.hand_on-handed.ensures c.clear_flags-leaf.ensures c.drop_list.ensures (c.drop_list.auto.0 ∙ c.hand_on-handed.auto.0 ∙ l.long) (long) c.store_merged.ensures
+returns c = let long : length c.clear_flags-leaf.result ≡ 57 = search rules in let l = loaded c.requires.1.pair c.load_page-page.ensures c.child_in-left.ensures c.child_in-right.ensures in leaves_law _ _ _ _ _ _ _ _ _ _ _ _ _ _ c.requires.1 c.load_page-page.ensures c.child_in-left.ensures c.child_in-right.ensures c.load_page-a.ensures c.load_page-b.ensures c.leaf_joined-joined.ensures c.hand_on-handed.ensures c.clear_flags-leaf.ensures c.drop_list.ensures (c.drop_list.auto.img ∙ c.hand_on-handed.auto.img ∙ l.long) (long) c.store_merged.ensures

@@ -20,7 +20,7 @@ returns-then-account-gt-LAST_ACCOUNT c = join-refused c.args.outer.now c.args.in
 pub pairs_past-total-requires : goal.pairs_past-total-requires
 pairs_past-total-requires c = let asked = let outer_valid = T_of (sym c.is_valid.ensures ∙ not_false c.is_valid.result c.if-not-is_valid.false-raw) in
     let inner_valid = T_of (sym c.is_valid-2.ensures ∙ not_false c.is_valid-2.result c.if-not-is_valid-2.false-raw) in
-    search (outer_valid, inner_valid, c.if-account-gt-LAST_ACCOUNT.false) in record { outer_valid = asked.0; inner_valid = asked.1; account_le_last_account = asked.2 }
+    search (outer_valid, inner_valid, c.if-account-gt-LAST_ACCOUNT.false) in record { outer_valid = asked.0; inner_valid = asked.1.0; account_le_last_account = asked.1.1 }
 
 pub returns : goal.returns
 returns c = join-found c.args.outer.now c.args.inner.now c.args.account _ _ _ _ (sym c.is_valid.ensures ∙ not_false c.is_valid.result c.if-not-is_valid.false-raw) (sym c.is_valid-2.ensures ∙ not_false c.is_valid-2.result c.if-not-is_valid-2.false-raw) c.if-account-gt-LAST_ACCOUNT.false c.pairs_past-total.ensures

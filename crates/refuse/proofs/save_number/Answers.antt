@@ -16,13 +16,13 @@ pub returns-then-is_held : goal.returns-then-is_held
 returns-then-is_held c = save_held (set_of c.args.img.now) _ _ (sym c.well_formed-2.ensures ∙ not_false c.well_formed-2.result c.if-not-well_formed.false-raw) (sym c.foreign.ensures ∙ c.if-foreign.false) (sym c.is_held.ensures ∙ c.if-is_held.true)
 
 pub crosses_held-requires : goal.crosses_held-requires
-crosses_held-requires c = (c.requires.img_valid, (formed_order _ (sym c.well_formed-2.ensures ∙ not_false c.well_formed-2.result c.if-not-well_formed.false-raw), ((sym c.is_held.ensures ∙ c.if-is_held.false), c.innermost_at-before.ensures)))
+crosses_held-requires c = record { img_valid = c.requires.img_valid; start_lt_end = formed_order _ (sym c.well_formed-2.ensures ∙ not_false c.well_formed-2.result c.if-not-well_formed.false-raw); img_value = (sym c.is_held.ensures ∙ c.if-is_held.false); before_value = c.innermost_at-before.ensures }
 
 pub returns-then-crosses_held : goal.returns-then-crosses_held
 returns-then-crosses_held c = save_cross (set_of c.args.img.now) _ _ (sym c.well_formed-2.ensures ∙ not_false c.well_formed-2.result c.if-not-well_formed.false-raw) (sym c.foreign.ensures ∙ c.if-foreign.false) (sym c.is_held.ensures ∙ c.if-is_held.false) (sym c.crosses_held.ensures ∙ c.if-crosses_held.true)
 
 pub contradicts_held-requires : goal.contradicts_held-requires
-contradicts_held-requires c = (c.requires.img_valid, (formed_order _ (sym c.well_formed-2.ensures ∙ not_false c.well_formed-2.result c.if-not-well_formed.false-raw), ((sym c.crosses_held.ensures ∙ c.if-crosses_held.false), c.innermost_at-before.ensures)))
+contradicts_held-requires c = record { img_valid = c.requires.img_valid; start_lt_end = formed_order _ (sym c.well_formed-2.ensures ∙ not_false c.well_formed-2.result c.if-not-well_formed.false-raw); img_value = (sym c.crosses_held.ensures ∙ c.if-crosses_held.false); before_value = c.innermost_at-before.ensures }
 
 pub returns-then-contradicts_held : goal.returns-then-contradicts_held
 returns-then-contradicts_held c = save_level (set_of c.args.img.now) _ _ (sym c.well_formed-2.ensures ∙ not_false c.well_formed-2.result c.if-not-well_formed.false-raw) (sym c.foreign.ensures ∙ c.if-foreign.false) (sym c.is_held.ensures ∙ c.if-is_held.false) (sym c.crosses_held.ensures ∙ c.if-crosses_held.false) (sym c.contradicts_held.ensures ∙ c.if-contradicts_held.true)

@@ -8,10 +8,10 @@ pub returns-then-s-gt0 : goal.returns-then-s-gt0
 returns-then-s-gt0 c = moved_on_lem _ _ _ _ _ _ c.if-s-gt0.true
 
 pub start-requires : goal.start-requires
-start-requires c = faces_few _ c.requires.inner_valid.1.0
+start-requires c = faces_few _ c.requires.faces
 
 pub forward-requires : goal.forward-requires
-forward-requires c = record { img_valid = c.requires.inner_valid.0; before = moved_before _ _ _ _ _ (clear_next _ _ _ _ (late_inside _ _ c.requires.inner_valid.1.1.1) (set_rises _ c.requires.outer_valid) c.requires.inner_valid.1.0 c.start.ensures) c.requires.inner_valid.1.1.0 }
+forward-requires c = record { img_valid = c.requires.inner_valid; before = moved_before _ _ _ _ _ (clear_next _ _ _ _ (late_inside _ _ c.requires.p_bound) (set_rises _ c.requires.outer_valid) c.requires.faces c.start.ensures) c.requires.faces_2 }
 
 pub returns : goal.returns
-returns c = moved_past _ _ _ _ _ _ _ _ c.if-s-gt0.false (clear_next _ _ _ _ (late_inside _ _ c.requires.inner_valid.1.1.1) (set_rises _ c.requires.outer_valid) c.requires.inner_valid.1.0 c.start.ensures) c.forward.ensures
+returns c = moved_past _ _ _ _ _ _ _ _ c.if-s-gt0.false (clear_next _ _ _ _ (late_inside _ _ c.requires.p_bound) (set_rises _ c.requires.outer_valid) c.requires.faces c.start.ensures) c.forward.ensures

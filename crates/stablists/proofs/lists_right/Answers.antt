@@ -7,7 +7,7 @@ use Rattle.stablists.proofs.Decides.{failed_right, left_right, height_some, imag
 use Rattle.stablists.proofs.lists_right.Goals as goal
 
 pub overflow_sub-depth : goal.overflow_sub-depth
-overflow_sub-depth c = omega (arith, height_some c.args.img.now c.requires.t, c.wide-depth.ensures, c.word.ensures)
+overflow_sub-depth c = omega (arith, height_some c.args.img.now c.requires.img_shapely, c.wide-depth.ensures, c.word.ensures)
 
 pub lists-done-requires : goal.lists-done-requires
 lists-done-requires c =

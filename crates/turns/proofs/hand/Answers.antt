@@ -12,7 +12,7 @@ pub slice_bounds-pairs_past-end : goal.slice_bounds-pairs_past-end
 slice_bounds-pairs_past-end c = let m = c.requires in let e = m.words in let l = m.seat in let h = (open_ok c.args.o m.fits).high in let r = c.pairs_a_turn.ensures in search rules
 
 pub pairs_past-requires : goal.pairs_past-requires
-pairs_past-requires c = let m = c.requires in (T_of m.outer_valid, (T_of m.inner_valid, (open_ok c.args.o m.fits).range))
+pairs_past-requires c = let m = c.requires in record { outer_valid = T_of m.outer_valid; inner_valid = T_of m.inner_valid; account_le_last_account = (open_ok c.args.o m.fits).range }
 
 pub returns : goal.returns
 returns c =
