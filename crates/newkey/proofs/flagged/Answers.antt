@@ -1,7 +1,6 @@
 use borrow.Author.Rules.{rules}
 use Prim.Native.Nat.{◌+◌, ◌-◌, ◌≤◌, ◌<◌}
 use mathlib.Core.Path.{◌≡◌, sym, ap, ◌∙◌, subst}
-use mathlib.Core.Logic.{⊎_elim}
 use native.Mathlib.Omega.{arith}
 use Rattle.regions.specs.Positions.{stabs}
 use Rattle.pages.specs.Layout.{fill_of}
@@ -10,6 +9,7 @@ use Rattle.newkey.proofs.Flagging.{flag_start, flag_pass, flag_set}
 use Prim.Native.Nat.{◌-◌, ◌≤◌}
 use mathlib.Core.Path.{sym, ap, ◌∙◌, subst}
 use Rattle.newkey.proofs.flagged.Goals as goal
+use Rattle.newkey.proofs.flagged.Goals.{then-stabs, else-stabs}
 
 pub loop-j-init : goal.loop-j-init
 loop-j-init c = (omega arith, flag_start c.args.leaf c.args.k)
@@ -32,10 +32,10 @@ loop-j-preserved c =
     let e = sym (c.stabs.ensures ∙ ap (stabs a.k) c.entry_in-r.ensures) in
     let h : l.j < fill_of a.leaf = omega (arith, p.1) in (
       omega arith,
-      ⊎_elim
-          (λ w. subst (Flagged a.leaf (l.j + 1) a.k) (sym w.2) (flag_set a.leaf a.k l.j h l.ws w.1.result l.invariant.1 (e ∙ w.0.taken) w.1.ensures))
-          (λ w. subst (Flagged a.leaf (l.j + 1) a.k) (sym w.1) (flag_pass a.leaf a.k l.j h l.ws l.invariant.1 (e ∙ w.0.left)))
-          c.if-stabs.branch,
+      elim c.if-stabs.branch [
+      | then-stabs w ↦ subst (Flagged a.leaf (l.j + 1) a.k) (sym w.ws-is) (flag_set a.leaf a.k l.j h l.ws w.set_flag-s.result l.invariant.1 (e ∙ w.if-stabs.true) w.set_flag-s.ensures)
+      | else-stabs w ↦ subst (Flagged a.leaf (l.j + 1) a.k) (sym w.ws-is) (flag_pass a.leaf a.k l.j h l.ws l.invariant.1 (e ∙ w.if-stabs.false))
+      ],
     )
 
 pub returns : goal.returns

@@ -19,16 +19,16 @@ pub lift-l-requires : goal.lift-l-requires
 lift-l-requires c =
     let l = c.loop-j in
     let p = c.requires in
-    let s = l.invariant.1 p.1.0 p.1.1 in
-    (s.touched.long ∙ p.0.0, turn_ends l.j c.loop-j-test.true s p.0.2 _ c.key_in-from.ensures)
+    let s = l.invariant.1 p.by_index.0 p.by_index.1 in
+    (s.touched.long ∙ p.img_len.0, turn_ends l.j c.loop-j-test.true s p.img_len.2 _ c.key_in-from.ensures)
 
 pub set_key-s-requires : goal.set_key-s-requires
 set_key-s-requires c =
     let l = c.loop-j in
     let p = c.requires in
-    let s = l.invariant.1 p.1.0 p.1.1 in
+    let s = l.invariant.1 p.by_index.0 p.by_index.1 in
     let e = s.page_is.fill_is in
-    (omega (arith, p.0.1), omega (arith, p.0.2))
+    (omega (arith, p.img_len.1), omega (arith, p.img_len.2))
 
 pub loop-j-preserved : goal.loop-j-preserved
 loop-j-preserved c =
@@ -36,7 +36,7 @@ loop-j-preserved c =
     let p = c.requires in (
       omega arith,
       (λ h g.
-          rise_again l.j c.loop-j-test.true (l.invariant.1 h g) p.0.2 _ c.key_in-from.ensures _ c.lift-l.result (x_is g c.key_in-key.result c.key_in-key.ensures)
+          rise_again l.j c.loop-j-test.true (l.invariant.1 h g) p.img_len.2 _ c.key_in-from.ensures _ c.lift-l.result (x_is g c.key_in-key.result c.key_in-key.ensures)
           c.lift-l.ensures c.set_key-s.ensures),
     )
 
@@ -44,7 +44,7 @@ pub shape_of-img : goal.shape_of-img
 shape_of-img c =
     let l = c.loop-j in
     let p = c.requires in
-    (l.invariant.1 p.1.0 p.1.1).touched.long
+    (l.invariant.1 p.by_index.0 p.by_index.1).touched.long
 
 pub returns : goal.returns
 returns c = λ h g. rise_done c.loop-j.j (omega (arith, c.loop-j-test.false)) _ refl refl (c.loop-j.invariant.1 h g)
