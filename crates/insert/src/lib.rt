@@ -1,5 +1,6 @@
 // The save of one region into a valid image: its entry comes into its leaf and its owner's list, then every page that holds nine is split, from the leaf up to the root.
 #![tactic(auto)]
+
 ghost use Rattle.std.specs.Prelude.{◌≡◌, List, ℕ, ◌+◌, ◌<◌, T, get_or};
 ghost use Rattle.regions.specs.declared.Region.{Region};
 ghost use Rattle.regions.specs.Sets.{saved};

@@ -1,3 +1,4 @@
+-- `census::tree_regions`: the fills allow each child to be read, and a turn passes the regions below one child.
 use Rattle.std.proofs.Common.{◌∙◌, arith}
 use Rattle.census.proofs.Walk.{kids_more, kids_done, kids_all, fills_here, fills_below}
 use Rattle.census.proofs.+tree_regions.Goals as goal

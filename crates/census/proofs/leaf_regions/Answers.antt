@@ -1,3 +1,4 @@
+-- `census::leaf_regions`: the fill allows each entry to be read, and a turn passes one region.
 use mathlib.Core.Path.{◌∙◌}
 use native.Mathlib.Omega.{arith}
 use Rattle.census.proofs.Walk.{leaf_more, leaf_done, leaf_all, fills_here}

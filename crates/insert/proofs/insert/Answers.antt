@@ -1,5 +1,4 @@
 -- `insert::insert` saves the region: its entry comes in, the fills are put right from the leaf up, and the root last.
-use borrow.Author.Rules.{rules}
 use native.Mathlib.Omega.{arith}
 use Rattle.path.proofs.Ways.{descend_asks}
 use Rattle.insert.proofs.Entered.{enter_asks, depth_asks, spread_asks, top_asks, save_right}

@@ -1,5 +1,4 @@
 -- `insert::relieve_root` leaves a root of eight or less as it is, and puts a root above one of nine.
-use borrow.Author.Rules.{rules}
 use native.Mathlib.Omega.{arith}
 use mathlib.Core.Path.{sym, ◌∙◌}
 use Rattle.insert.proofs.Roots.{top_kept, grow_asks, settle_asks, top_done}

@@ -1,5 +1,4 @@
 -- `insert::settle` splits a child that holds nine, a leaf or an inner page.
-use borrow.Author.Rules.{rules}
 use native.Mathlib.Omega.{arith}
 use mathlib.Core.Path.{sym, ◌∙◌}
 use Rattle.insert.proofs.Settles.{settle_kept, leaf_asks, leaf_settled, inner_asks, inner_settled}

@@ -1,3 +1,4 @@
+-- `shape::pass_tree`: a page that is wrong ends the pass, a leaf's entries are one run, and a turn passes a child and the key behind it.
 use borrow.Author.Tests.{not-true, not-false}
 use Rattle.std.proofs.Common.{◌-◌, refl, ◌∙◌, arith}
 use Rattle.shape.specs.Run.{events_at}

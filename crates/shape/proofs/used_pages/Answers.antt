@@ -1,3 +1,4 @@
+-- `shape::used_pages`: a page that is in use adds one to what is counted, any other none.
 use native.Mathlib.Omega.{arith}
 use Rattle.shape.proofs.Turns.{used_none, used_one, used_done}
 use Rattle.shape.proofs.used_pages.Goals as goal

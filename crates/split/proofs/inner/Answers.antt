@@ -63,7 +63,7 @@ store_split-requires c =
     let child = c.load_page-child in
     let g = c.raise-risen.ensures in
     let e = c.enter_key-above.ensures (suc c.requires.1.0) (key_asks s page.result place.result child.result page.ensures place.ensures child.ensures g) in
-    store_asks s.child_at page.result place.result page.ensures place.ensures c.enter_key-above.new.0 _ (e.touched.long ∙ risen_long s page.result place.result child.result page.ensures place.ensures child.ensures g ∙ s.child_at.stands.long)
+    store_asks s.child_at page.result place.result page.ensures place.ensures c.enter_key-above.new.img _ (e.touched.long ∙ risen_long s page.result place.result child.result page.ensures place.ensures child.ensures g ∙ s.child_at.stands.long)
     (free_page_lem s.child_at _ c.first_free_page-r.ensures s.free_page_lem)
 
 pub returns : goal.returns

@@ -104,7 +104,7 @@ store_split-requires c =
     let b = key_lies s page.result child.result leaf.result page.ensures child.ensures leaf.ensures in
     let g = c.gather-key.ensures in
     let e = c.enter_key-above.ensures 0 (enter_asks s page.result child.result leaf.result page.ensures child.ensures leaf.ensures k.result (omega arith, omega arith) g) in
-    store_asks s.child_at page.result child.result page.ensures child.ensures c.enter_key-above.new.0 _ (e.touched.long ∙ g.touched.long ∙ s.child_at.stands.long)
+    store_asks s.child_at page.result child.result page.ensures child.ensures c.enter_key-above.new.img _ (e.touched.long ∙ g.touched.long ∙ s.child_at.stands.long)
     (free_page_lem s.child_at _ c.first_free_page-r.ensures s.free_page_lem)
 
 pub returns : goal.returns
