@@ -25,4 +25,4 @@ shape_of-img c = simp length-set (omega arith)
 pub returns : goal.returns
 returns c =
     open_done c.args.img.now _ c.args.shares (omega arith) (sym c.shares_fit.ensures ∙ not_false c.shares_fit.result c.if-not-shares_fit.false-raw)
-    (image_opened c.args.img.now c.clear.new.0 c.put_shares.new.0 c.args.shares (omega arith) (search rules) c.clear.ensures c.put_shares.ensures)
+    (image_opened c.args.img.now c.clear.new.img c.put_shares.new.img c.args.shares (omega arith) (search rules) c.clear.ensures c.put_shares.ensures)
