@@ -7,22 +7,27 @@ use mathlib.Core.List.{List}
 use lib.ListN.{length, set, replicate}
 use native.Mathlib.Omega.{arith}
 use denote.Ref.{Bor}
+use borrow.Author.Tests.{ne_eqb}
 use Rattle.words.specs.Lists.{first_no}
 use Rattle.words.proofs.Tests.{eq_yes, lt_yes, lt_no}
-use Rattle.regions.specs.Limits.{last_seat, seat_count}
+use Rattle.regions.specs.Limits.{last_seat, seat_count, buffer_words}
 use Rattle.regions.specs.Numbers.{DESK, SEAT}
 use Rattle.regions.specs.Desk.{closed, seat_at, desk_fits, buffer_fits, open_desk_no, open_seat_no, close_seat_no, part_no, part}
 use Rattle.regions.specs.declared.Kind.{Kind}
 use Rattle.regions.specs.declared.Seat.{Seat}
-use Rattle.seats.specs.Steps.{Opens, Closes, parts_no}
+use Rattle.seats.specs.Steps.{Opens, Closes, parts_no, asked_no}
 use Rattle.parts.specs.Lent.{PartBy}
-use Rattle.desk.specs.Promises.{OpensDesk, OpensSeat, ClosesSeat, LendsPart}
+use Rattle.desk.specs.Promises.{OpensDesk, OpensSeat, ClosesSeat, LendsPart, PartNumber}
 use Rattle.desk.proofs.Tested.{set_unless}
 
 module _ (ds : List Seat) where
   pub desk_opened : length ds ≡ 8 → OpensDesk ds 0 (replicate seat_count closed)
   unfolding open_desk_no first_no
   desk_opened e = record { number_is = rw (eq_yes (length ds) 8 e) refl; desk_is = refl }
+
+  pub desk_unopened : (length ds ≡ 8 → ⊥) → OpensDesk ds DESK ds
+  unfolding open_desk_no first_no
+  desk_unopened h = record { number_is = rw (ne_eqb (length ds) 8 h) refl; desk_is = refl }
 
   module _ (i account : ℕ) (kind : Kind) (limit : ℕ) where
     pub open_no_desk : desk_fits ds ≡ false → OpensSeat ds i account kind limit DESK ds
@@ -60,3 +65,21 @@ module _ (ds : List Seat) where
   pub part_is : (b : Bor (List ℕ)) (i n : ℕ) (r : Bor (List ℕ)) → PartBy (part_no ds b.now i n) b i n r → LendsPart ds b i n r
   unfolding part
   part_is b i n r e = record { part_is = record { words_are = e.words_are }; place_is = e.place_is }
+
+  -- the number of a request, by the tests that led there
+  module _ (b : List ℕ) (i n : ℕ) where
+    pub asked_no_desk : desk_fits ds ≡ false → PartNumber ds b i n DESK
+    unfolding part_no first_no
+    asked_no_desk e = record { number_is = rw e refl }
+
+    pub asked_no_buffer : desk_fits ds ≡ true → (length b ≡ buffer_words → ⊥) → PartNumber ds b i n DESK
+    unfolding part_no first_no buffer_fits
+    asked_no_buffer e f = record { number_is = rw (e, ne_eqb (length b) 1024 f) refl }
+
+    pub asked_no_seat : desk_fits ds ≡ true → length b ≡ buffer_words → last_seat < i → PartNumber ds b i n SEAT
+    unfolding part_no first_no buffer_fits
+    asked_no_seat e f l = record { number_is = rw (e, eq_yes (length b) 1024 f, lt_yes 7 i l) refl }
+
+    pub asked_answered : desk_fits ds ≡ true → length b ≡ buffer_words → i < seat_count → (r : ℕ) → r ≡ asked_no (seat_at ds i).state n → PartNumber ds b i n r
+    unfolding part_no first_no buffer_fits
+    asked_answered e f l r s = record { number_is = rw (e, eq_yes (length b) 1024 f, lt_no 7 i (omega arith)) s }

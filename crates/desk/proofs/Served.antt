@@ -27,25 +27,6 @@ use Rattle.turns.specs.Steps.{MayServe, Serves}
 use Rattle.turns.proofs.Turned.{put_at, poured_at}
 use Rattle.turns.proofs.ByTurns.{desk_at, counts_at, buffer_at, all_served}
 use Rattle.desk.specs.Promises.{Rounds}
-use Rattle.desk.proofs.AskTurn.{IsCounts}
-use Rattle.desk.proofs.Frames.{is_true, is_false}
-
--- a field that is an array maps its elements
-pub map_same : (cs : List ℕ) → map (λ (v : ℕ). v) cs ≡ cs
-map_same [] = refl
-map_same (c ∷ cs) = ap (λ (l : List ℕ). c ∷ l) (map_same cs)
-
--- how many turns are made, by the number
-unfoldable pub turns_made : ℕ → ℕ
-turns_made c = unless c 8 0
-
-pub all_made : (c : ℕ) → T (eqb c 0) → 8 ≡ turns_made c
-unfolding turns_made
-all_made c h = rw (is_true (eqb c 0) h) refl
-
-pub none_made : (c : ℕ) → T (not (eqb c 0)) → 0 ≡ turns_made c
-unfolding turns_made
-none_made c h = rw (is_false (eqb c 0) h) refl
 
 module _ (os ns : List ℕ) (ys : List Seat) where
   abbrev X : Set
@@ -53,12 +34,6 @@ module _ (os ns : List ℕ) (ys : List Seat) where
 
   abbrev Y : Set
   Y = set_of ns
-
-  pub zeros_are : IsCounts (counts_at X Y ys 0)
-  unfolding put_at
-  zeros_are =
-      let z : Is u32 0 (vint w32 0 ∷ []) = (refl, lit< tt) in
-      (map (vint w32) (replicate 8 0), ((refl, refl), (z, (z, (z, (z, (z, (z, (z, (z, tt))))))))))
 
   module _ (zs : List ℕ) where
     -- THE NUMBER
@@ -68,11 +43,6 @@ module _ (os ns : List ℕ) (ys : List Seat) where
     pub number_is : rounds_no (valid os && valid ns) (desk_fits ys) (length zs) ≡ number_of
     unfolding number_of round_no buffer_fits
     number_is = refl
-
-    pub number_small : number_of < 2 ^ 32
-    unfolding number_of round_no first_no
-    number_small =
-        either (λ n. n < 2 ^ 32) (valid os && valid ns) _ _ (λ _. either (λ n. n < 2 ^ 32) (not (desk_fits ys && buffer_fits zs)) _ _ (λ _. lit< tt) (λ _. lit< tt)) (λ _. lit< tt)
 
     -- what a round that is not refused has shown
     pub tested : T (eqb number_of 0) → MayServe os ns ys zs
@@ -88,19 +58,7 @@ module _ (os ns : List ℕ) (ys : List Seat) where
           words = m.words;
         }
 
-    -- THE END: all turns are made, or none
-    by_number : (t : Bool) → eqb number_of 0 ≡ t → Rounds os ns ys zs number_of (counts_at X Y ys (cond t 8 0)) (desk_at X Y ys (cond t 8 0)) (buffer_at X Y ys zs (cond t 8 0))
-    unfolding number_of put_at poured_at
-    by_number true e =
-        let all = all_served X Y ys zs (eight_seats ys (tested (T_of e)).fits) in
-        record { number_is = refl; counts_are = rw e all.counts_are; desk_is = rw e all.desk_is; buffer_is = rw e all.buffer_is }
-    by_number false e = record { number_is = refl; counts_are = rw e refl; desk_is = rw e refl; buffer_is = rw e refl }
-
-    pub rounds : (i : ℕ) → i ≡ turns_made number_of → Rounds os ns ys zs number_of (counts_at X Y ys i) (desk_at X Y ys i) (buffer_at X Y ys zs i)
-    unfolding turns_made
-    rounds i e = subst (λ (k : ℕ). Rounds os ns ys zs number_of (counts_at X Y ys k) (desk_at X Y ys k) (buffer_at X Y ys zs k)) (sym e) (by_number (eqb number_of 0) refl)
-
-    -- THE SAME WITH THE SEATS BY VALUE: the number, by what the three tests answered
+    -- THE END: the number, by what the three tests answered; a refused round, and one that was served
     pub number_told : (n : ℕ) (images desk : Bool) → n ≡ rounds_no images desk (length zs) → images ≡ (valid os && valid ns) → desk ≡ desk_fits ys → n ≡ number_of
     number_told n images desk e f g = e ∙ ap₂ (λ (a b : Bool). rounds_no a b (length zs)) f g ∙ number_is
 

@@ -29,22 +29,22 @@ use Rattle.queries.specs.Searches.{step_count, FindsAncestors, parent_number, pa
 use Rattle.queries.specs.declared.Parent.TheVariants.{Refused, Nothing, At}
 
 -- ANCESTOR and PARENT SEARCH, by a position
-pub point-foreign : (a p : ℕ) → foreign a p ≡ true → 3 ≡ point_no a p
+pub point_foreign : (a p : ℕ) → foreign a p ≡ true → 3 ≡ point_no a p
 unfolding point_no first_no
-point-foreign a p e = rw e
+point_foreign a p e = rw e
 
-pub point-own : (a p : ℕ) → foreign a p ≡ false → 0 ≡ point_no a p
+pub point_own : (a p : ℕ) → foreign a p ≡ false → 0 ≡ point_no a p
 unfolding point_no first_no
-point-own a p e = rw e
+point_own a p e = rw e
 
 -- ANCESTORS
-pub ancestors-refused : (w : List ℕ) (a p : ℕ) (ch : Choice) (out : List ℕ) (n : ℕ) → (n ≡ 0 → ⊥) → n ≡ image_first (valid w) (point_no a p) → FindsAncestors w a p ch out n 0 0 out
-ancestors-refused w a p ch out n h e = record { number_is = e; refused = λ z. (refl, refl, refl); done = λ z. absurd (h z) }
+pub ancestors_refused : (w : List ℕ) (a p : ℕ) (ch : Choice) (out : List ℕ) (n : ℕ) → (n ≡ 0 → ⊥) → n ≡ image_first (valid w) (point_no a p) → FindsAncestors w a p ch out n 0 0 out
+ancestors_refused w a p ch out n h e = record { number_is = e; refused = λ z. (refl, refl, refl); done = λ z. absurd (h z) }
 
-pub ancestors-found : (w : List ℕ) (a p : ℕ) (ch : Choice) (out out' : List ℕ) (total made : ℕ) → valid w ≡ true → foreign a p ≡ false → total ≡ length (ancestors ch p (set_of w)) → made ≡ step_count w ch p
+pub ancestors_found : (w : List ℕ) (a p : ℕ) (ch : Choice) (out out' : List ℕ) (total made : ℕ) → valid w ≡ true → foreign a p ≡ false → total ≡ length (ancestors ch p (set_of w)) → made ≡ step_count w ch p
     → out' ≡ written region_words region_width out (ancestors ch p (set_of w)) → FindsAncestors w a p ch out 0 total made out'
-ancestors-found w a p ch out out' total made v f t s o =
-    record { number_is = own_number (valid w) 0 (point_no a p) v (point-own a p f); refused = λ z. absurd (z refl); done = λ z. (t, s, o) }
+ancestors_found w a p ch out out' total made v f t s o =
+    record { number_is = own_number (valid w) 0 (point_no a p) v (point_own a p f); refused = λ z. absurd (z refl); done = λ z. (t, s, o) }
 
 -- PARENT: what the search found, by its two cases
 pub found_none : (f : Found) (xs : List Region) → f ≡ NotFound → found_list f ≡ xs → [] ≡ xs
@@ -55,63 +55,63 @@ pub found_at : (f : Found) (r : Region) (xs : List Region) → f ≡ FoundAt r �
 unfolding found_list
 found_at f r xs e g = ap found_list (sym e) ∙ g
 
-pub parent-refused : (w : List ℕ) (a p l n : ℕ) → (n ≡ 0 → ⊥) → n ≡ image_first (valid w) (point_no a p) → FindsParent w a p l (Refused n)
+pub parent_refused : (w : List ℕ) (a p l n : ℕ) → (n ≡ 0 → ⊥) → n ≡ image_first (valid w) (point_no a p) → FindsParent w a p l (Refused n)
 unfolding parent_number parent_found is_refusal
-parent-refused w a p l n h e = record { number_is = e; refused = λ z. refl; done = λ z. absurd (h z); case_is = rw (eq_no n 0 h) }
+parent_refused w a p l n h e = record { number_is = e; refused = λ z. refl; done = λ z. absurd (h z); case_is = rw (eq_no n 0 h) }
 
 pub parent_none : (w : List ℕ) (a p l : ℕ) → valid w ≡ true → foreign a p ≡ false → [] ≡ parent p l (set_of w) → FindsParent w a p l Nothing
 unfolding parent_number parent_found is_refusal
-parent_none w a p l v f e = record { number_is = own_number (valid w) 0 (point_no a p) v (point-own a p f); refused = λ z. absurd (z refl); done = λ z. e; case_is = refl }
+parent_none w a p l v f e = record { number_is = own_number (valid w) 0 (point_no a p) v (point_own a p f); refused = λ z. absurd (z refl); done = λ z. e; case_is = refl }
 
-pub parent-at : (w : List ℕ) (a p l : ℕ) (r : Region) → valid w ≡ true → foreign a p ≡ false → r ∷ [] ≡ parent p l (set_of w) → FindsParent w a p l (At r)
+pub parent_at : (w : List ℕ) (a p l : ℕ) (r : Region) → valid w ≡ true → foreign a p ≡ false → r ∷ [] ≡ parent p l (set_of w) → FindsParent w a p l (At r)
 unfolding parent_number parent_found is_refusal
-parent-at w a p l r v f e = record { number_is = own_number (valid w) 0 (point_no a p) v (point-own a p f); refused = λ z. absurd (z refl); done = λ z. e; case_is = refl }
+parent_at w a p l r v f e = record { number_is = own_number (valid w) 0 (point_no a p) v (point_own a p f); refused = λ z. absurd (z refl); done = λ z. e; case_is = refl }
 
 -- DESCENDANTS AND CHILDREN
-pub bounds-wrong : (a s e : ℕ) → well_bound s e ≡ false → 2 ≡ bounds_no a s e
+pub bounds_wrong : (a s e : ℕ) → well_bound s e ≡ false → 2 ≡ bounds_no a s e
 unfolding bounds_no first_no
-bounds-wrong a s e h = rw h
+bounds_wrong a s e h = rw h
 
-pub bounds-foreign : (a s e : ℕ) → well_bound s e ≡ true → foreign a s ≡ true → 3 ≡ bounds_no a s e
+pub bounds_foreign : (a s e : ℕ) → well_bound s e ≡ true → foreign a s ≡ true → 3 ≡ bounds_no a s e
 unfolding bounds_no first_no
-bounds-foreign a s e h f = rw (h, f)
+bounds_foreign a s e h f = rw (h, f)
 
-pub bounds-own : (a s e : ℕ) → well_bound s e ≡ true → foreign a s ≡ false → 0 ≡ bounds_no a s e
+pub bounds_own : (a s e : ℕ) → well_bound s e ≡ true → foreign a s ≡ false → 0 ≡ bounds_no a s e
 unfolding bounds_no first_no
-bounds-own a s e h f = rw (h, f)
+bounds_own a s e h f = rw (h, f)
 
-pub lists-refused : (w : List ℕ) (a s e : ℕ) (rs : List Region) (out : List ℕ) (n : ℕ) → (n ≡ 0 → ⊥) → n ≡ image_first (valid w) (bounds_no a s e) → Lists w a s e rs out n 0 false out
-lists-refused w a s e rs out n h f = record { number_is = f; refused = λ z. (refl, refl, refl); done = λ z. absurd (h z) }
+pub lists_refused : (w : List ℕ) (a s e : ℕ) (rs : List Region) (out : List ℕ) (n : ℕ) → (n ≡ 0 → ⊥) → n ≡ image_first (valid w) (bounds_no a s e) → Lists w a s e rs out n 0 false out
+lists_refused w a s e rs out n h f = record { number_is = f; refused = λ z. (refl, refl, refl); done = λ z. absurd (h z) }
 
-pub lists-found : (w : List ℕ) (a s e : ℕ) (rs : List Region) (out out' : List ℕ) (n count : ℕ) (more : Bool) → n ≡ 0 → n ≡ image_first (valid w) (bounds_no a s e)
+pub lists_found : (w : List ℕ) (a s e : ℕ) (rs : List Region) (out out' : List ℕ) (n count : ℕ) (more : Bool) → n ≡ 0 → n ≡ image_first (valid w) (bounds_no a s e)
     → count ≡ count_written region_width out rs → more ≡ more_remain region_width out rs → out' ≡ written region_words region_width out rs → Lists w a s e rs out 0 count more out'
-lists-found w a s e rs out out' n count more z f c m o = record { number_is = sym z ∙ f; refused = λ h. absurd (h refl); done = λ h. (c, m, o) }
+lists_found w a s e rs out out' n count more z f c m o = record { number_is = sym z ∙ f; refused = λ h. absurd (h refl); done = λ h. (c, m, o) }
 
 -- THE JOIN
-pub either-invalid : (u v : Bool) (n : ℕ) → u ≡ true → v ≡ false → 1 ≡ image_first (u && v) n
-either-invalid u v n e f = rw (e, f)
+pub either_invalid : (u v : Bool) (n : ℕ) → u ≡ true → v ≡ false → 1 ≡ image_first (u && v) n
+either_invalid u v n e f = rw (e, f)
 
-pub outer-invalid : (u v : Bool) (n : ℕ) → u ≡ false → 1 ≡ image_first (u && v) n
-outer-invalid u v n e = rw e
+pub outer_invalid : (u v : Bool) (n : ℕ) → u ≡ false → 1 ≡ image_first (u && v) n
+outer_invalid u v n e = rw e
 
-pub join-foreign : (u v : Bool) (a : ℕ) → u ≡ true → v ≡ true → 15 < a → 3 ≡ image_first (u && v) (join_no a)
+pub join_foreign : (u v : Bool) (a : ℕ) → u ≡ true → v ≡ true → 15 < a → 3 ≡ image_first (u && v) (join_no a)
 unfolding join_no first_no
-join-foreign u v a e f h = rw (e, f, lt_yes 15 a h)
+join_foreign u v a e f h = rw (e, f, lt_yes 15 a h)
 
-pub join-own : (u v : Bool) (a : ℕ) → u ≡ true → v ≡ true → a ≤ 15 → 0 ≡ image_first (u && v) (join_no a)
+pub join_own : (u v : Bool) (a : ℕ) → u ≡ true → v ≡ true → a ≤ 15 → 0 ≡ image_first (u && v) (join_no a)
 unfolding join_no first_no
-join-own u v a e f h = rw (e, f, lt_no 15 a h)
+join_own u v a e f h = rw (e, f, lt_no 15 a h)
 
-pub join-refused : (u v : List ℕ) (a : ℕ) (k : Kind) (out : List ℕ) (n : ℕ) → (n ≡ 0 → ⊥) → n ≡ image_first (valid u && valid v) (join_no a) → JoinsSets u v a k out n 0 out
-join-refused u v a k out n h e = record { number_is = e; refused = λ z. (refl, refl); done = λ z. absurd (h z) }
+pub join_refused : (u v : List ℕ) (a : ℕ) (k : Kind) (out : List ℕ) (n : ℕ) → (n ≡ 0 → ⊥) → n ≡ image_first (valid u && valid v) (join_no a) → JoinsSets u v a k out n 0 out
+join_refused u v a k out n h e = record { number_is = e; refused = λ z. (refl, refl); done = λ z. absurd (h z) }
 
 -- past no mark lie all pairs, and all are told
-pub join-found : (u v : List ℕ) (a : ℕ) (k : Kind) (out out' : List ℕ) (total : ℕ) → valid u ≡ true → valid v ≡ true → a ≤ 15
+pub join_found : (u v : List ℕ) (a : ℕ) (k : Kind) (out out' : List ℕ) (total : ℕ) → valid u ≡ true → valid v ≡ true → a ≤ 15
     → Joined (past Fresh (joined (set_of u) (set_of v) a k)) true out out' total → JoinsSets u v a k out 0 total out'
-join-found u v a k out out' total e f h j =
+join_found u v a k out out' total e f h j =
     let all = past_fresh (joined (set_of u) (set_of v) a k) in
     record {
-      number_is = join-own (valid u) (valid v) a e f h;
+      number_is = join_own (valid u) (valid v) a e f h;
       refused = λ z. absurd (z refl);
       done = λ z. (j.total ∙ ap length all, j.words ∙ ap (written pair_words pair_width out) all);
     }

@@ -82,7 +82,7 @@ clear_next w p q c l up f g = go (step_from w c) refl g
     go (Next e on) s k =
         let o = faces_on w c _ e on f s in
         let m = first_from (set_of w).regions p e.region o.rest up o.is in
-        clear_from (set_of w).regions p q (omega (arith, m.low)) (rw (o.is, k) m.least)
+        clear_from (set_of w).regions p q (omega (arith, m.low)) (rw o.is (subst (λ n. All (λ r. n ≤ r.start) (e.region ∷ o.rest)) (sym k) m.least))
 
 -- THE FIRST THAT MAY BE HELD by what starts at q: q comes in time for it
 pub held_says : (ch : Choice) (q x : ℕ) → Says (ltb q (too_late ch x)) (first_held ch q ≤ x)

@@ -6,10 +6,10 @@ use borrow.Author.Rules.{rules}
 use Rattle.desk.proofs.close_seat_by_value.Goals as goal
 
 pub returns-then-not-desk_fits : goal.returns-then-not-desk_fits
-returns-then-not-desk_fits c = close_no_desk _ _ (sym c.desk_fits.ensures ∙ not-true c.desk_fits.result c.if-not-desk_fits.true-raw)
+returns-then-not-desk_fits c = close_no_desk _ _ (sym c.desk_fits.ensures ∙ c.if-not-desk_fits.true)
 
 pub returns-then-i-gt-LAST_SEAT : goal.returns-then-i-gt-LAST_SEAT
-returns-then-i-gt-LAST_SEAT c = close_no_seat _ _ (sym c.desk_fits.ensures ∙ not-false c.desk_fits.result c.if-not-desk_fits.false-raw) c.if-i-gt-LAST_SEAT.true
+returns-then-i-gt-LAST_SEAT c = close_no_seat _ _ (sym c.desk_fits.ensures ∙ c.if-not-desk_fits.false) c.if-i-gt-LAST_SEAT.true
 
 pub returns : goal.returns
-returns c = close_stored _ _ (sym c.desk_fits.ensures ∙ not-false c.desk_fits.result c.if-not-desk_fits.false-raw) (search rules) _ _ c.closes-c.ensures
+returns c = close_stored _ _ (sym c.desk_fits.ensures ∙ c.if-not-desk_fits.false) (search rules) _ _ c.closes-c.ensures

@@ -11,7 +11,7 @@ pub returns-then-img-ne-IMAGE_WORDS : goal.returns-then-img-ne-IMAGE_WORDS
 returns-then-img-ne-IMAGE_WORDS c = open_image _ _ c.if-img-ne-IMAGE_WORDS.true
 
 pub returns-then-not-shares_fit : goal.returns-then-not-shares_fit
-returns-then-not-shares_fit c = open_shares _ c.args.shares c.if-img-ne-IMAGE_WORDS.false (sym c.shares_fit.ensures ∙ not_true c.shares_fit.result c.if-not-shares_fit.true-raw)
+returns-then-not-shares_fit c = open_shares _ c.args.shares c.if-img-ne-IMAGE_WORDS.false (sym c.shares_fit.ensures ∙ c.if-not-shares_fit.true)
 
 pub bounds-img-1 : goal.bounds-img-1
 bounds-img-1 c = simp length-set (omega arith)
@@ -24,5 +24,5 @@ shape_of-img c = simp length-set (omega arith)
 
 pub returns : goal.returns
 returns c =
-    open_done c.args.img.now _ c.args.shares (omega arith) (sym c.shares_fit.ensures ∙ not_false c.shares_fit.result c.if-not-shares_fit.false-raw)
-    (image_opened c.args.img.now c.clear.new.0 c.put_shares.new.0 c.args.shares (omega arith) (search rules) c.clear.ensures c.put_shares.ensures)
+    open_done c.args.img.now _ c.args.shares (omega arith) (sym c.shares_fit.ensures ∙ c.if-not-shares_fit.false)
+    (image_opened c.args.img.now c.clear.new.img c.put_shares.new.img c.args.shares (omega arith) (search rules) c.clear.ensures c.put_shares.ensures)

@@ -23,13 +23,13 @@ pub shape_of-out-then-not-holds : goal.shape_of-out-then-not-holds
 shape_of-out-then-not-holds c = c.loop-n.invariant.1.long
 
 pub returns-then-not-holds : goal.returns-then-not-holds
-returns-then-not-holds c = walk_stop _ _ _ _ _ _ c.loop-n.invariant.1 _ _ (omega (arith, c.loop-n-test.true)) c.if-q-eq0.false c.record_region-a.ensures c.step-t.ensures (sym c.holds.ensures ∙ not_true c.holds.result c.if-not-holds.true-raw)
+returns-then-not-holds c = walk_stop _ _ _ _ _ _ c.loop-n.invariant.1 _ _ (omega (arith, c.loop-n-test.true)) c.if-q-eq0.false c.record_region-a.ensures c.step-t.ensures (sym c.holds.ensures ∙ c.if-not-holds.true)
 
 pub visit-t-requires : goal.visit-t-requires
 visit-t-requires c = rw c.step-t.ensures (omega (arith, c.loop-n.invariant.1.total, c.loop-n.invariant.1.steps))
 
 pub loop-n-preserved : goal.loop-n-preserved
-loop-n-preserved c = (omega arith, walk_on _ _ _ _ _ _ c.loop-n.invariant.1 _ _ (omega (arith, c.loop-n-test.true)) c.if-q-eq0.false c.record_region-a.ensures c.step-t.ensures _ _ _ (sym c.holds.ensures ∙ not_false c.holds.result c.if-not-holds.false-raw) c.visit-t.ensures c.record_next-q.ensures)
+loop-n-preserved c = (omega arith, walk_on _ _ _ _ _ _ c.loop-n.invariant.1 _ _ (omega (arith, c.loop-n-test.true)) c.if-q-eq0.false c.record_region-a.ensures c.step-t.ensures _ _ _ (sym c.holds.ensures ∙ c.if-not-holds.false) c.visit-t.ensures c.record_next-q.ensures)
 
 pub shape_of-out : goal.shape_of-out
 shape_of-out c = c.loop-n.invariant.1.long

@@ -18,7 +18,7 @@ pub returns-then-not-o : goal.returns-then-not-o
 returns-then-not-o c = shut_at _ _ _ _ _ _ c.closed.ensures c.requires (enter_dead _ _ _ _ _ (not-true _ c.if-not-o.true))
 
 pub returns-then-not-well_formed : goal.returns-then-not-well_formed
-returns-then-not-well_formed c = shut_at _ _ _ _ _ _ c.closed-then-not-well_formed.ensures c.requires (enter_ill _ _ _ _ _ (not-false _ c.if-not-o.false) (sym c.well_formed-2.ensures ∙ not-true _ c.if-not-well_formed.true-raw))
+returns-then-not-well_formed c = shut_at _ _ _ _ _ _ c.closed-then-not-well_formed.ensures c.requires (enter_ill _ _ _ _ _ (not-false _ c.if-not-o.false) (sym c.well_formed-2.ensures ∙ c.if-not-well_formed.true))
 
 pub returns-then-share-eq0 : goal.returns-then-share-eq0
 returns-then-share-eq0 c = let formed : well_formed c.args.r ≡ true = sym c.well_formed-2.ensures ∙ c.if-not-well_formed.false in let of-account : c.wide-account.result ≡ account c.args.r.start = c.wide-account.ensures ∙ c.account_of.ensures in shut_at _ _ _ _ _ _ c.closed-then-share-eq0.ensures c.requires (enter_spent _ _ _ _ _ _ _ (not-false _ c.if-not-o.false) formed of-account c.word-share.ensures (omega (arith, c.if-share-eq0.true)))

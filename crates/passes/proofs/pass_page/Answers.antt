@@ -9,7 +9,7 @@ pub returns-then-not-s : goal.returns-then-not-s
 returns-then-not-s c = c.failed.ensures ∙ page_dead _ _ (not-true _ c.if-not-s.true)
 
 pub returns-then-not-right : goal.returns-then-not-right
-returns-then-not-right c = c.failed-then-not-right.ensures ∙ page_no _ _ (not-true _ c.if-not-right.true-raw)
+returns-then-not-right c = c.failed-then-not-right.ensures ∙ page_no _ _ (c.if-not-right.true)
 
 pub returns-then-left-eq0 : goal.returns-then-left-eq0
 returns-then-left-eq0 c =

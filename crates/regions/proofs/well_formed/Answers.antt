@@ -7,7 +7,7 @@ use Rattle.regions.proofs.Small.{formed_no, formed_low, formed_is}
 use Rattle.regions.proofs.well_formed.Goals as goal
 
 pub returns-then-not-well_bound : goal.returns-then-not-well_bound
-returns-then-not-well_bound c = formed_no _ (sym c.well_bound.ensures ∙ not_true _ c.if-not-well_bound.true-raw)
+returns-then-not-well_bound c = formed_no _ (sym c.well_bound.ensures ∙ c.if-not-well_bound.true)
 
 pub returns-then-r-lt1 : goal.returns-then-r-lt1
 returns-then-r-lt1 c =

@@ -5,16 +5,16 @@ use Rattle.seats.proofs.round_number.Goals as goal
 
 pub returns-then-not-images : goal.returns-then-not-images
 unfolding first_no
-returns-then-not-images c = simp (not-true c.args.images c.if-not-images.true-raw)
+returns-then-not-images c = simp (c.if-not-images.true)
 
 pub returns-then-not-desk : goal.returns-then-not-desk
 unfolding first_no
-returns-then-not-desk c = simp (not-false c.args.images c.if-not-images.false-raw, not-true c.args.desk c.if-not-desk.true-raw)
+returns-then-not-desk c = simp (c.if-not-images.false, c.if-not-desk.true)
 
 pub returns-then-words-eq-BUFFER_WORDS : goal.returns-then-words-eq-BUFFER_WORDS
 unfolding first_no
-returns-then-words-eq-BUFFER_WORDS c = simp (not-false c.args.images c.if-not-images.false-raw, not-false c.args.desk c.if-not-desk.false-raw, eq-eqb _ _ c.if-words-eq-BUFFER_WORDS.true)
+returns-then-words-eq-BUFFER_WORDS c = simp (c.if-not-images.false, c.if-not-desk.false, eq-eqb _ _ c.if-words-eq-BUFFER_WORDS.true)
 
 pub returns : goal.returns
 unfolding first_no
-returns c = simp (not-false c.args.images c.if-not-images.false-raw, not-false c.args.desk c.if-not-desk.false-raw, ne_eqb _ _ c.if-words-eq-BUFFER_WORDS.false)
+returns c = simp (c.if-not-images.false, c.if-not-desk.false, ne_eqb _ _ c.if-words-eq-BUFFER_WORDS.false)

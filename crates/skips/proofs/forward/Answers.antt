@@ -28,7 +28,7 @@ pub loop-choice-smaller : goal.loop-choice-smaller
 loop-choice-smaller c = faces_less _ _ _ _ _ c.loop-choice.invariant.faces (sym c.step-step.ensures ∙ c.in-Next.is)
 
 pub loop-choice-preserved : goal.loop-choice-preserved
-loop-choice-preserved c = forward_on c.loop-choice.invariant (set_rises _ c.requires.img_valid) _ _ (sym c.step-step.ensures ∙ c.in-Next.is) (not_held _ _ _ _ _ c.start.ensures c.in_time.ensures (not_true c.in_time.result c.loop-choice-test.true-raw))
+loop-choice-preserved c = forward_on c.loop-choice.invariant (set_rises _ c.requires.img_valid) _ _ (sym c.step-step.ensures ∙ c.in-Next.is) (not_held _ _ _ _ _ c.start.ensures c.in_time.ensures (c.loop-choice-test.true))
 
 pub returns : goal.returns
-returns c = forward_there c.loop-choice.invariant (set_rises _ c.requires.img_valid) (may_hold _ _ _ _ _ c.start.ensures c.in_time.ensures (not_false c.in_time.result c.loop-choice-test.false-raw))
+returns c = forward_there c.loop-choice.invariant (set_rises _ c.requires.img_valid) (may_hold _ _ _ _ _ c.start.ensures c.in_time.ensures (c.loop-choice-test.false))

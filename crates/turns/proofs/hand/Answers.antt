@@ -21,4 +21,4 @@ returns c =
     let r = t.ensures in
     let a = c.args in
     let m = c.requires in
-    hands _ _ a.o a.buffer.now a.i ((128 * a.i + 4 * t.result) - 128 * a.i) _ p.result p.new.1.1.1.1.1.0 m.words m.seat m.fits p.ensures (omega arith) refl
+    hands _ _ a.o a.buffer.now a.i ((128 * a.i + 4 * t.result) - 128 * a.i) _ p.result p.new.out m.words m.seat m.fits p.ensures (omega arith) refl

@@ -1,0 +1,10 @@
+-- `desk::round` meets its contract. The invariant: what stands after the turns made.
+use Prim.Native.Nat.{◌-◌}
+use Rattle.turns.proofs.ByTurns.{Stands}
+use Rattle.desk.proofs.round.Given as goal
+
+abbrev pub invariant-loop-i : goal.invariant-loop-i
+invariant-loop-i l = Stands l.outer l.inner l.initial.desk l.initial.buffer l.i l.desk l.counts l.buffer
+
+abbrev pub decreases-loop-i : goal.decreases-loop-i
+decreases-loop-i l = 8 - l.i
