@@ -2,7 +2,11 @@
 // The input is words of four bytes, low byte first: an image of 12,288; the number of cases; for each case the number of its changes, at most 8, and then each
 // change, a place and a word. A case's changes are made, the image is audited, and the words that were there are put back.
 #![tactic(auto)]
+
 ghost use Rattle.std.specs.Prelude.{◌≤◌};
+
+use std::io;
+use std::io::Read;
 
 #[derive(Clone, Copy)]
 pub struct Changes {
@@ -17,19 +21,19 @@ fn at_most_8(x: u32) -> u32
 }
 
 // A case's changes; the places that are not used lie past every image.
-fn read_changes() -> Changes {
-    let count = console::next_word();
+fn read_changes(input: &mut impl Read) -> io::Result<Changes> {
+    let count = console::next_word(input)?;
     let used = at_most_8(count);
     let mut places = [4294967295u32; 8];
     let mut words = [0u32; 8];
     let mut i: u32 = 0;
     while i < used {
         let at = words::wide(i);
-        places[at] = console::next_word();
-        words[at] = console::next_word();
+        places[at] = console::next_word(input)?;
+        words[at] = console::next_word(input)?;
         i += 1;
     }
-    Changes { places, words }
+    Ok(Changes { places, words })
 }
 
 // Puts a word at a place, and answers the word that was there; past the end nothing happens.
@@ -55,31 +59,33 @@ fn change(img: &mut [u32], c: Changes) -> Changes {
     Changes { places, words }
 }
 
-fn tell(img: &[u32]) {
+fn tell(rt: &impl Print, img: &[u32]) -> io::Result<()> {
     let r = audit::audit(img);
     if r.ok {
-        console::text(b"1");
+        console::text(rt, b"1")
     } else {
-        console::text(b"0");
+        console::text(rt, b"0")
     }
 }
 
-fn case(img: &mut [u32]) {
-    let c = read_changes();
+fn case(rt: &impl Print, input: &mut impl Read, img: &mut [u32]) -> io::Result<()> {
+    let c = read_changes(input)?;
     let was = change(img, c);
-    tell(img);
+    tell(rt, img)?;
     change(img, was);
+    Ok(())
 }
 
-fn main() {
+fn main(rt: HostRuntime) -> io::Result<()> {
+    let mut input = rt.stdin();
     let mut img = [0u32; pages::IMAGE_WORDS];
-    console::next_words(&mut img);
-    tell(&img);
-    let cases = console::next_word();
+    console::next_words(&mut input, &mut img)?;
+    tell(&rt, &img)?;
+    let cases = console::next_word(&mut input)?;
     let mut i: u32 = 0;
     while i < cases {
-        case(&mut img);
+        case(&rt, &mut input, &mut img)?;
         i += 1;
     }
-    console::text(b"\n");
+    console::text(&rt, b"\n")
 }

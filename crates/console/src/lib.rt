@@ -1,37 +1,63 @@
-// The console of the programs: words from standard input, and numbers and text on standard output.
+// The console of the programs: words from a reader, mostly standard input; numbers and text on a printer, mostly standard output; the arguments and the files that
+// they name. A read or a write that fails is the call's error, and nothing is tried again.
 #![tactic(auto)]
-ghost use Rattle.std.specs.Prelude.{◌≤◌, length};
 
-use libc::{STDIN_FILENO, STDOUT_FILENO};
+ghost use Rattle.std.specs.Prelude.{ℕ, ◌<◌, ◌≤◌, length, take, IfOk, OnErr};
+ghost use Rattle.std.specs.Io.KnownBytes.{Consumes, IsAtEnd};
+
+use std::env::FillError;
+use std::fs::File;
+use std::io;
+use std::io::{ErrorKind, Read};
+use std::rt::{Env, Files};
+
+// Reads until the room is full or the input ends, and answers how many bytes it put at the start of the room. Where a read fails, what was read before stands there.
+pub fn read_full<R: Read>(input: &mut R, room: &mut [u8]) -> io::Result<usize>
+    ensures within { IfOk result (λ n. n ≤ length room.new) }
+    ensures bytes { IfOk result (λ n. Consumes (R.remaining input.old) (R.remaining input.new) (take n room.new)) }
+    ensures end { IfOk result (λ n. n < length room.new → IsAtEnd (R.remaining input.new)) }
+    ensures none_lost { OnErr result ((k : ℕ) × Consumes (R.remaining input.old) (R.remaining input.new) (take k room.new)) }
+{
+    let mut done: usize = 0;
+    while done < room.len() {
+        let n = input.read(&mut room[done..])?;
+        if n == 0 {
+            break;
+        }
+        done += n;
+    }
+    Ok(done)
+}
 
 // The next word of the input, four bytes, low byte first; 0 where the input has ended.
-pub fn next_word() -> u32 {
+pub fn next_word(input: &mut impl Read) -> io::Result<u32> {
     let mut four = [0u8; 4];
-    io::read_full(STDIN_FILENO, &mut four);
+    read_full(input, &mut four)?;
     let low = lines::byte_at(&four, 0) + 256 * lines::byte_at(&four, 1);
     let high = lines::byte_at(&four, 2) + 256 * lines::byte_at(&four, 3);
-    (low + 65536 * high) as u32
+    Ok((low + 65536 * high) as u32)
 }
 
 // The next words of the input, as many as there is room for.
-pub fn next_words(room: &mut [u32]) {
+pub fn next_words(input: &mut impl Read, room: &mut [u32]) -> io::Result<()> {
     let mut i: usize = 0;
     while i < room.len() {
-        room[i] = next_word();
+        room[i] = next_word(input)?;
         i += 1;
     }
+    Ok(())
 }
 
-pub fn text(t: &[u8]) {
-    io::write_all(STDOUT_FILENO, t);
+pub fn text(rt: &impl Print, t: &[u8]) -> io::Result<()> {
+    rt.write_all(t)
 }
 
-pub fn number(n: usize) {
-    io::print_decimal(STDOUT_FILENO, n as u64);
+pub fn number(rt: &impl Print, n: usize) -> io::Result<()> {
+    rt.print(n)
 }
 
 // Up to nine numbers on a line, which is put together and written by one call.
-pub fn line(numbers: &[u32])
+pub fn line(rt: &impl Print, numbers: &[u32]) -> io::Result<()>
     requires { length numbers.now ≤ 9 }
 {
     let mut bytes = [0u8; 99];
@@ -44,25 +70,54 @@ pub fn line(numbers: &[u32])
         bytes[at] = lines::break_behind(n - i);
         at += 1;
     }
-    text(&bytes[..at]);
+    text(rt, &bytes[..at])
 }
 
 // The first n lines of four words, regions or pairs, of which the slice may hold fewer.
-pub fn rows(words: &[u32], n: usize) {
+pub fn rows(rt: &impl Print, words: &[u32], n: usize) -> io::Result<()> {
     let mut at: usize = 0;
     let mut i: usize = 0;
     while i < n {
         if words.len() - at < 4 {
-            return;
+            return Ok(());
         }
         let end = at + 4;
-        line(&words[at..end]);
+        line(rt, &words[at..end])?;
         at = end;
         i += 1;
     }
+    Ok(())
 }
 
 // A count as a word. No count of a program comes near what a word holds.
 pub fn narrow(n: usize) -> u32 {
     if n < 4294967296 { n as u32 } else { 4294967295 }
+}
+
+// How many arguments the program was started with, its own name among them. Without room an argument is only looked for.
+pub fn argument_count(rt: &impl Env) -> usize {
+    for i in 0..usize::MAX {
+        if let Err(FillError::NotPresent) = rt.arg(i, &mut []) {
+            return i;
+        }
+    }
+    usize::MAX
+}
+
+// Puts argument i at the start of the room, and answers its length, or 0 where it is missing or longer than the room.
+pub fn argument(rt: &impl Env, i: usize, room: &mut [u8]) -> usize
+    ensures { result ≤ length room.new }
+{
+    match rt.arg(i, room) {
+        Ok(n) => n,
+        Err(_) => 0,
+    }
+}
+
+// Opens the file of a name for reading. The name has to be text in UTF-8, since std opens no other.
+pub fn open_read<R: Files>(rt: &R, name: &[u8]) -> io::Result<R::File> {
+    match str::from_utf8(name) {
+        Ok(path) => File::open(rt, path),
+        Err(_) => Err(io::Error::from(ErrorKind::InvalidFilename)),
+    }
 }
