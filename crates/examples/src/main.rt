@@ -1,6 +1,7 @@
 // Runs the examples of document 01 that are no theorems, and those traps of its source that a run can show. Each is compared with the answer that the document gives
 // (or a change request: C-15, on levels; C-17, with self), and has a line: its name, and `right`, or `wrong` with what came out and what should have.
 #![tactic(auto)]
+
 use regions::{Choice, Kind, Region, Seat};
 
 // An example's line.

@@ -1,6 +1,7 @@
 // Reads a listing and prints the ancestor join of its two sets, or `refused` with the number and line of the first refusal. With no arguments the listing is standard
 // input. Otherwise each argument names a listing, and each is answered in turn; `-` is standard input.
 #![tactic(auto)]
+
 ghost use Rattle.std.specs.Prelude.{◌≡◌, ◌≤◌, T, length};
 ghost use Rattle.regions.specs.Limits.{buffer_words, last_account};
 ghost use Rattle.image.specs.Valid.{valid};
