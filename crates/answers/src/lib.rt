@@ -1,5 +1,6 @@
 // Answers: items of four words each, written into a lent slice as long as they fit. Other words stay.
 #![tactic(auto)]
+
 ghost use Rattle.std.specs.Prelude.{◌≡◌, [], ◌∷◌};
 ghost use Rattle.regions.specs.Calls.{region_words, pair_of, pair_words};
 ghost use Rattle.answers.specs.Items.{written_from, as_words};

@@ -1,5 +1,6 @@
 // Decides whether an image is valid, exactly and of any words: its shape, then its regions, then its lists; each part leans on the ones before.
 #![tactic(auto)]
+
 ghost use Rattle.std.specs.Prelude.{◌≡◌, false};
 ghost use Rattle.image.specs.Valid.{valid};
 ghost use Rattle.audit.specs.Report.{Reports};

@@ -1,6 +1,7 @@
 // The public calls for programs in C and Rust, in one archive. A slice goes over as a pointer and a number of words, an answer comes back as a struct.
 // Each export hands its arguments on and its answer back, so that its promise is the call's own record.
 #![tactic(auto)]
+
 ghost use Rattle.index.specs.Opening.{OpensSet};
 ghost use Rattle.index.specs.Changes.{Saves, Deletes};
 ghost use Rattle.index.specs.Batches.{Batches};

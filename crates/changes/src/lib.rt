@@ -1,5 +1,6 @@
 // Save and delete on an image that is known to be valid: refused by the call's own tests, and then no word changes, or done.
 #![tactic(auto)]
+
 ghost use Rattle.std.specs.Prelude.{◌≡◌, ◌<◌, ◌-◌, suc, T, get_or, set};
 ghost use Rattle.regions.specs.Limits.{account_count, most_regions};
 ghost use Rattle.regions.specs.Sets.{held_by};

@@ -1,5 +1,6 @@
 // Whether a start is held, and whether a region crosses a held one, by descents alone; and whether its level contradicts a held one's, by one of these and a walk over what lies inside.
 #![tactic(auto)]
+
 ghost use Rattle.std.specs.Prelude.{◌≡◌, false, ◌<◌, T};
 ghost use Rattle.words.specs.Lists.{filter, some};
 ghost use Rattle.regions.specs.Sets.{is_at, held_at, crossed, contradicted};

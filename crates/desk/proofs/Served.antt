@@ -1,19 +1,14 @@
 -- A round's number, what it shows where it is 0, and that what stands after all turns is what the promise says. A refused round is one of no turn.
 -- Assumes nothing.
-use Prim.Native.Nat.{ℕ, ◌<◌, ◌^◌}
-use mathlib.Core.Path.{◌≡◌, refl, sym, ap, ap₂, ◌∙◌, subst}
-use mathlib.Core.Bool.{Bool, true, false, not, ◌&&◌, cond}
-use mathlib.Core.List.{List, [], ◌∷◌, map}
-use lib.Dec.{T, eqb, eqb→eq, lit<}
+use Prim.Native.Nat.{ℕ}
+use mathlib.Core.Path.{◌≡◌, refl, sym, ap₂, ◌∙◌}
+use mathlib.Core.Bool.{Bool, ◌&&◌}
+use mathlib.Core.List.{List}
+use lib.Dec.{T, eqb, eqb→eq}
 use lib.ListN.{length, replicate}
-use denote.Laws.{Is}
-use denote.Builtin.{u32}
 use borrow.Author.Tests.{eq-eqb, ne_eqb}
-use mir.Syntax.{w32}
-use mir.Val.{vint}
-use Rattle.words.specs.Lists.{first_no}
-use Rattle.words.proofs.Tests.{of_T, T_of, and_left, and_right, either}
-use Rattle.regions.specs.Numbers.{unless, image_first}
+use Rattle.words.proofs.Tests.{of_T, T_of, and_left, and_right}
+use Rattle.regions.specs.Numbers.{image_first}
 use Rattle.regions.specs.Sets.{Set}
 use Rattle.regions.specs.Desk.{desk_fits, buffer_fits, round_no}
 use Rattle.regions.specs.declared.Seat.{Seat}
@@ -22,10 +17,7 @@ use Rattle.regions.proofs.Done.{fits_desk, round_done}
 use Rattle.image.specs.Read.{set_of}
 use Rattle.image.specs.Valid.{valid}
 use Rattle.seats.specs.Steps.{rounds_no}
-use Rattle.seats.proofs.Fitting.{eight_seats}
 use Rattle.turns.specs.Steps.{MayServe, Serves}
-use Rattle.turns.proofs.Turned.{put_at, poured_at}
-use Rattle.turns.proofs.ByTurns.{desk_at, counts_at, buffer_at, all_served}
 use Rattle.desk.specs.Promises.{Rounds}
 
 module _ (os ns : List ℕ) (ys : List Seat) where

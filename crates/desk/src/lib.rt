@@ -1,6 +1,7 @@
 // The desk: eight partner seats lent together as a slice of structs. Each public call takes any slices, tests in its order, and answers its number.
 // What is decided of a seat is decided in functions that take it by value; the calls on the lent slice read, call, store and return.
 #![tactic(auto)]
+
 ghost use Rattle.std.specs.Prelude.{◌≡◌, ◌&&◌};
 ghost use Rattle.regions.specs.Desk.{desk_fits};
 ghost use Rattle.image.specs.Valid.{valid};

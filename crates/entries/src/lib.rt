@@ -1,5 +1,6 @@
 // The steps of a save and a delete that change the set: an entry comes into its leaf or leaves it, and with it its owner's list; and the root's two steps.
 #![tactic(auto)]
+
 ghost use Rattle.std.specs.Prelude.{◌≡◌, ◌≤◌, ◌<◌};
 ghost use Rattle.xrtree.specs.Moves.{put, out};
 ghost use Rattle.pages.specs.Layout.{page_of, fill_of};

@@ -1,5 +1,6 @@
 // A seat and a desk in plain numbers, as they go over the border to C and Rust and back.
 #![tactic(auto)]
+
 ghost use Rattle.std.specs.Prelude.{◌≡◌, map};
 ghost use Rattle.regions.specs.Numbers.{unless};
 ghost use Rattle.flat.specs.Numbers.{kind_of, choice_of_number, kind_number, mark_of, seat_of_numbers};

@@ -1,6 +1,7 @@
 // The outer regions that hold a place, by the choice, kept on a stack while the place moves on: made anew by one search, or brought from one place to the next entry by
 // entry.
 #![tactic(auto)]
+
 ghost use Rattle.std.specs.Prelude.{◌≤◌, ◌≡◌, T, length};
 ghost use Rattle.regions.specs.Limits.{last_account};
 ghost use Rattle.regions.specs.Positions.{lowest, too_late};

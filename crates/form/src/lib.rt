@@ -1,5 +1,6 @@
 // The form of a listing, and the readers of its lines: a section's count, an account with its share, a region. Each line is read from a place of the text, and refused by its form or its numbers.
 #![tactic(auto)]
+
 ghost use Rattle.std.specs.Prelude.{◌≡◌, ◌≤◌, length};
 ghost use Rattle.form.specs.Form.{Shares};
 ghost use Rattle.form.specs.Readers.{CountRead, ShareRead, RegionRead};

@@ -1,5 +1,6 @@
 // Lists that a merge moves: a key that leaves its page hands its list on to the next key, and one that comes down gives each key left of it what that stabs; what no key stabs is in no list any more.
 #![tactic(auto)]
+
 ghost use Rattle.std.specs.Prelude.{◌≡◌, map, ◌≤◌, length};
 ghost use Rattle.pages.specs.Layout.{mark_of, fill_of, next_of, image_words};
 ghost use Rattle.image.specs.Read.{record_region, list_places};

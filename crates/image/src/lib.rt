@@ -1,5 +1,6 @@
 // What an image holds and what makes it valid stands in specs/, the laws in proofs/. There is no code here but this.
 #![tactic(auto)]
+
 ghost use Rattle.std.specs.Prelude.{◌≡◌};
 ghost use Rattle.pages.specs.Layout.{image_words};
 

@@ -1,5 +1,6 @@
 // The public calls on sets: each takes any input, tests in its order, and answers its number.
 #![tactic(auto)]
+
 ghost use Rattle.std.specs.Prelude.{◌≡◌, ◌+◌, ◌≤◌, T, length, replicate, drop};
 ghost use Rattle.std.proofs.lemmas.List.Edits.{sets};
 ghost use Rattle.regions.specs.Limits.{item_width};

@@ -1,5 +1,6 @@
 // What starts inside given bounds: the entries along the leaves, from the first behind the bounds' start, as many as fit.
 #![tactic(auto)]
+
 ghost use Rattle.std.specs.Prelude.{◌≡◌, [], ◌∷◌, ◌+◌, ◌/◌, ◌≤◌, max, T, length};
 ghost use Rattle.words.specs.Lists.{filter, some};
 ghost use Rattle.regions.specs.Positions.{inside};

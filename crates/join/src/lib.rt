@@ -1,6 +1,7 @@
 // The join of two sets: for each d of the inner set, in order, the pairs of d with its ancestors in the outer set, strict or with self. The outer regions that hold a place
 // are kept on a stack, which follows the d's as they ascend; where nothing can pair, neither set is read.
 #![tactic(auto)]
+
 ghost use Rattle.std.specs.Prelude.{◌≡◌, cond, ◌||◌, ◌<◌, ◌≤◌, min, T, ltb};
 ghost use Rattle.words.specs.Lists.{filter};
 ghost use Rattle.regions.specs.Limits.{last_account};

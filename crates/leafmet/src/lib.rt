@@ -1,5 +1,6 @@
 // What a search meets in a leaf: the entries that hold the position and stand in no list.
 #![tactic(auto)]
+
 ghost use Rattle.std.specs.Prelude.{[], ◌∷◌, ◌<◌, ◌≤◌};
 ghost use Rattle.pages.specs.Layout.{page_of, fill_of};
 ghost use Rattle.image.specs.Read.{entry_at};

@@ -1,5 +1,6 @@
 // The entries of a set in order, along the leaves' links: a cursor by value, whose step hands the entry and the cursor moved on.
 #![tactic(auto)]
+
 ghost use Rattle.std.specs.Prelude.{◌≡◌, suc, ◌<◌, ◌≤◌, T};
 ghost use Rattle.words.specs.Lists.{filter};
 ghost use Rattle.regions.specs.Positions.{too_late};

@@ -1,5 +1,6 @@
 // Reads a listing into two lent images: line by line, the first refusal with its line.
 #![tactic(auto)]
+
 ghost use Rattle.std.specs.Prelude.{◌≤◌, ◌≡◌, [], T, length};
 ghost use Rattle.pages.specs.Layout.{image_words};
 ghost use Rattle.image.specs.Read.{set_of};

@@ -1,5 +1,6 @@
 // What a search meets on one page of its path: the lists of an inner page, as far as their records hold the position, or the entries of a leaf that stand in no list.
 #![tactic(auto)]
+
 ghost use Rattle.std.specs.Prelude.{◌<◌, ◌≤◌};
 ghost use Rattle.pages.specs.Layout.{page_of, fill_of};
 ghost use Rattle.xrtree.specs.Search.{run, cost};

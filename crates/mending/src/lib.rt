@@ -1,5 +1,6 @@
 // A page that holds too few, and its neighbour: merged where they fit in one page, else joined and split anew.
 #![tactic(auto)]
+
 ghost use Rattle.std.specs.Prelude.{◌≡◌, ◌<◌, get_or};
 ghost use Rattle.pages.specs.Layout.{page_of, fill_of, child_in};
 ghost use Rattle.steps.specs.Steps.{Split, Merged};

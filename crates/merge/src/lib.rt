@@ -1,6 +1,7 @@
 // Merges of two neighbouring children of a page, leaves or inner pages, with the stab lists that this changes.
 // Pages are worked out by value and stored at the end; before that only words of stab records are written.
 #![tactic(auto)]
+
 ghost use Rattle.std.specs.Prelude.{◌≡◌, ℕ, suc, ◌<◌, ◌≤◌, length, get_or};
 ghost use Rattle.pages.specs.Layout.{image_words, page_count};
 ghost use Rattle.store.specs.Store.{put_page, free_page};

@@ -1,5 +1,6 @@
 // One region after the other, in ascending start: whether it is well formed, nests in those around it with a level above theirs, and fits in what is left of its account's share.
 #![tactic(auto)]
+
 ghost use Rattle.std.specs.Prelude.{◌≡◌, ℕ, ◌≤◌, List};
 ghost use Rattle.nesting.specs.Pass.{pop, stack_of, enter, passed, shut, Fitting};
 

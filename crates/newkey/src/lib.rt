@@ -1,5 +1,6 @@
 // What the new key of a leaf's split takes of the leaf: the list of what it stabs, and the flags that say so.
 #![tactic(auto)]
+
 ghost use Rattle.std.specs.Prelude.{◌≡◌, ◌≤◌, ◌<◌};
 ghost use Rattle.pages.specs.Layout.{fill_of};
 ghost use Rattle.image.specs.Read.{entry_at, entries_from};

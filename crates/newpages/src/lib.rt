@@ -1,5 +1,6 @@
 // What save and delete read of a page by value, and what they do to it: 57 words in, 57 words out. No image is touched here.
 #![tactic(auto)]
+
 ghost use Rattle.std.specs.Prelude.{[], ◌∷◌, ◌++◌, suc, ◌+◌, ◌-◌, ◌<◌, ◌≤◌, take, drop};
 ghost use Rattle.pages.specs.Layout.{mark_of, fill_of, next_of};
 ghost use Rattle.newpages.specs.Pages.{put_in, taken_out, put_for, flagged_entry, entries_of, spares_of, keys_of, children_of, IsLeaf, IsInner};

@@ -1,5 +1,6 @@
 // Which key of a path owns a region: the first on the way down, from the root, that stabs it. Its record stands in that key's list.
 #![tactic(auto)]
+
 ghost use Rattle.std.specs.Prelude.{◌≡◌, ◌≤◌, take};
 ghost use Rattle.words.specs.Lists.{All};
 ghost use Rattle.pages.specs.Layout.{page_of, fill_of};

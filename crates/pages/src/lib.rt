@@ -1,6 +1,7 @@
 // The words of an image: where pages and stab records begin, and readers of them, each equal to the layout's definition. Past the image's end every word is 0,
 // so that a place of any number can be followed.
 #![tactic(auto)]
+
 ghost use Rattle.std.specs.Prelude.{◌≡◌, ◌+◌, ◌<◌, ◌≤◌, get_or};
 ghost use Rattle.pages.specs.Layout.{page_of, record_of, mark_of, fill_of, next_of, region_in, flag_in, child_in, record_next, record_end, page_width, record_width, page_word, entry_word, key_word, child_word, record_word};
 

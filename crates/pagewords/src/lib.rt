@@ -1,5 +1,6 @@
 // The words of a page by value: entries, keys and children read; a run of words, a key, the head written.
 #![tactic(auto)]
+
 ghost use Rattle.std.specs.Prelude.{◌≡◌, ◌+◌, ◌<◌, ◌≤◌, get_or};
 ghost use Rattle.std.proofs.lemmas.List.Edits.{sets};
 ghost use Rattle.pages.specs.Layout.{region_in, entry_word, flag_in, child_in, page_width, key_width};

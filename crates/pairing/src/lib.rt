@@ -1,5 +1,6 @@
 // Which pairs of a d are handed: those of the kind that is asked for, past the mark. One is written and counted.
 #![tactic(auto)]
+
 ghost use Rattle.std.specs.Prelude.{◌≡◌, true, [], ◌∷◌, ◌<◌};
 ghost use Rattle.regions.specs.Positions.{holds};
 ghost use Rattle.regions.specs.Calls.{choice_of, pair_of};

@@ -1,5 +1,6 @@
 // A part of the round buffer: the seat's own words, lent on, where the number is 0; none where it is refused.
 #![tactic(auto)]
+
 ghost use Rattle.parts.specs.Lent.{PartBy, PartThere};
 
 // The words of a part where its number is 0, and none where it is refused.

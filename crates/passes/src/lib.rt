@@ -1,5 +1,6 @@
 // How far the walk over an image's pages has come, by value: one page, leaf, start or key after the other.
 #![tactic(auto)]
+
 ghost use Rattle.std.specs.Prelude.{◌≡◌, ◌<◌};
 ghost use Rattle.passes.specs.Run.{wrong, step_page, step_leaf, step_code, finished};
 

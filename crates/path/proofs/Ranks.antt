@@ -2,13 +2,11 @@
 -- Assumes nothing.
 use Prim.Native.Nat.{ℕ, zero, suc, ◌+◌, ◌-◌, ◌≤◌, ◌<◌}
 use mathlib.Core.Path.{◌≡◌, refl, sym, ◌∙◌}
-use mathlib.Core.Bool.{cond}
-use mathlib.Core.List.{List, [], ◌∷◌}
+use mathlib.Core.List.{List}
 use lib.Dec.{ltb}
 use lib.ListN.{get_or}
 use native.Mathlib.Omega.{arith}
 use Rattle.words.proofs.Tests.{by_test, lt_yes, lt_no}
-use Rattle.xrtree.specs.Tree.{Key}
 use Rattle.pages.specs.Layout.{fill_of, key_word, child_in}
 use Rattle.image.specs.Read.{kids_from}
 use Rattle.path.specs.Path.{rank_from, rank_in, kid_for}

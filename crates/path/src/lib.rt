@@ -1,5 +1,6 @@
 // The way down: the child that a position belongs to, and the pages on its path, root first, by value.
 #![tactic(auto)]
+
 ghost use Rattle.std.specs.Prelude.{◌≡◌, ◌≤◌};
 ghost use Rattle.pages.specs.Layout.{root_of, height_of, page_of, fill_of};
 ghost use Rattle.image.specs.Read.{depth_of};

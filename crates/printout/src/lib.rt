@@ -1,5 +1,6 @@
 // Pairs of the join as text: into a lent buffer, and from a mark on in batches, so that a join of any size is printed with little room.
 #![tactic(auto)]
+
 ghost use Rattle.std.specs.Prelude.{◌≡◌, ◌+◌, ◌*◌, ◌≤◌, T, length, take, drop};
 ghost use Rattle.regions.specs.Limits.{buffer_words, last_account};
 ghost use Rattle.regions.specs.Calls.{joined};

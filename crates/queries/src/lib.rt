@@ -1,5 +1,6 @@
 // The public calls that ask: a set for ancestors, the parent, descendants and children, two sets for their join. Each takes any slices, tests in its order and answers its number; no image is changed.
 #![tactic(auto)]
+
 ghost use Rattle.std.specs.Prelude.{◌≡◌};
 ghost use Rattle.regions.specs.Numbers.{image_first};
 ghost use Rattle.regions.specs.Calls.{bounds_no};

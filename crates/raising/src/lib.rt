@@ -1,5 +1,6 @@
 // Lists that a split moves: what the middle key of an inner page takes from the keys left of it as it rises, and what a key takes from the next one where it enters a page.
 #![tactic(auto)]
+
 ghost use Rattle.std.specs.Prelude.{◌≡◌, ℕ, ◌≤◌, ◌<◌, length};
 ghost use Rattle.pages.specs.Layout.{fill_of, image_words};
 ghost use Rattle.raising.specs.Moves.{RaiseReady, Raised, EnterReady, Entered};

@@ -1,6 +1,7 @@
 // What save and delete do to a key's stab list: a region comes or goes, a beginning of one list goes in front of another, all records of a list
 // are given back. Only words of stab records are written; a key is carried by value, and the caller stores its words into its page.
 #![tactic(auto)]
+
 ghost use Rattle.std.specs.Prelude.{◌≡◌, List, [], ℕ, ◌≤◌, length};
 ghost use Rattle.pages.specs.Layout.{image_words, record_count};
 ghost use Rattle.regions.specs.Positions.{stabs};

@@ -1,5 +1,6 @@
 // Which test refuses a save or a delete of a valid image: the call's own tests in their order; 0 where the call may go on.
 #![tactic(auto)]
+
 ghost use Rattle.std.specs.Prelude.{◌≡◌, ◌<◌, T, leb, get_or};
 ghost use Rattle.regions.specs.Limits.{account_count};
 ghost use Rattle.regions.specs.Sets.{held_at, share_of, held_by};

@@ -1,5 +1,6 @@
 // Regions, kinds, marks and seats, and the small tests on them that everybody needs, each equal to its definition.
 #![tactic(auto)]
+
 ghost use Rattle.std.specs.Prelude.{◌≡◌, leb, ltb};
 ghost use Rattle.words.specs.Lists.{sum};
 ghost use Rattle.regions.specs.Limits.{most_regions};

@@ -1,6 +1,7 @@
 // The delete of one region from a valid image: its entry and its record go, then the fills are put right from the leaf up to the root.
 // A child left with three is merged with a neighbour, or gets from it what it lacks: the neighbour is split, and the near part merged.
 #![tactic(auto)]
+
 ghost use Rattle.std.specs.Prelude.{◌≡◌, ℕ, ◌<◌, ◌≤◌, T, get_or};
 ghost use Rattle.regions.specs.Sets.{deleted};
 ghost use Rattle.regions.specs.Calls.{delete_no};

@@ -1,5 +1,6 @@
 // A root more, above a root that is to be split, and a root less where it has only one child left.
 #![tactic(auto)]
+
 ghost use Rattle.std.specs.Prelude.{◌≡◌, List, [], ℕ, suc, ◌≤◌, length};
 ghost use Rattle.regions.specs.declared.Region.{Region};
 ghost use Rattle.xrtree.specs.Tree.{Tree};

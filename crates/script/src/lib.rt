@@ -1,5 +1,6 @@
 // The commands of a script, and the reader of a line.
 #![tactic(auto)]
+
 ghost use Rattle.std.specs.Prelude.{◌+◌, ◌*◌, ◌≤◌, length};
 
 // The commands by their row in the table.

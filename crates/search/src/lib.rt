@@ -1,5 +1,6 @@
 // One traversal along a position's path serves ancestor search, strict or with self, and parent search: what is asked of each ancestor is its task.
 #![tactic(auto)]
+
 ghost use Rattle.std.specs.Prelude.{◌≡◌, T, ◌≤◌};
 ghost use Rattle.regions.specs.Calls.{ancestors, parent};
 ghost use Rattle.pages.specs.Layout.{root_of, height_of};

@@ -1,5 +1,6 @@
 // SEATS BY VALUE: what is decided of one seat, and of the eight together, with nothing lent but words to read. The calls on the desk read, ask here, and store.
 #![tactic(auto)]
+
 ghost use Rattle.std.specs.Prelude.{◌≡◌, ◌&&◌, ◌+◌, ◌*◌, ◌≤◌, length, replicate};
 ghost use Rattle.regions.specs.Limits.{pair_width, seat_count};
 ghost use Rattle.regions.specs.Desk.{mark_fits, seat_fits, desk_fits, closed, limit_asked};

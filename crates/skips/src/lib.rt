@@ -1,5 +1,6 @@
 // Where the join goes on: at the first place where pairs can begin, at the next d of the account, and past what no outer region holds.
 #![tactic(auto)]
+
 ghost use Rattle.std.specs.Prelude.{◌≡◌, suc, ◌<◌, ◌≤◌, T, ltb};
 ghost use Rattle.words.specs.Lists.{filter};
 ghost use Rattle.regions.specs.Limits.{last_account};

@@ -1,6 +1,7 @@
 // Splits of a leaf and of an inner page, as a save does them, and a delete where a page takes over from its neighbour: the child keeps its first entries or keys, the rest goes to a new page on its right,
 // and the key between them comes into the page above with the list that is its own.
 #![tactic(auto)]
+
 ghost use Rattle.std.specs.Prelude.{ℕ, suc, ◌≤◌, ◌<◌, ◌-◌, ◌≡◌, ◌≢◌, length, get_or};
 ghost use Rattle.pages.specs.Layout.{image_words, page_count};
 ghost use Rattle.xrtree.specs.Rules.{key_between};

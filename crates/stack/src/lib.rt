@@ -1,6 +1,7 @@
 // The stack of a join: the outer regions that hold a place, in lent words, the innermost on top, which is the last. It follows the places as they ascend, and pairs what it
 // holds with each d. No image is read here: whoever reads regions in ascending start can keep such a stack.
 #![tactic(auto)]
+
 ghost use Rattle.std.specs.Prelude.{◌<◌, ◌≤◌, ◌≡◌, true, false, [], ◌∷◌, ◌++◌, length};
 ghost use Rattle.words.specs.Lists.{filter, All};
 ghost use Rattle.regions.specs.Limits.{most_around};

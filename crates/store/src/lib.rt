@@ -2,6 +2,7 @@
 // These are the only stores into an image that save and delete make. An entry more and a key's new words are written where they stand; a page that is cut,
 // joined or loses an entry is worked out by value (crate newpages) and stored whole.
 #![tactic(auto)]
+
 ghost use Rattle.std.specs.Prelude.{◌≡◌, ◌+◌, ◌<◌, ◌≤◌, length};
 ghost use Rattle.pages.specs.Layout.{page_of, page_used, record_used, image_words, page_count, record_count};
 ghost use Rattle.pagewords.specs.Words.{copied_in};

@@ -1,5 +1,6 @@
 // What a search has met so far, by value: how many ancestors it took, the steps it made, the last one taken. Each ancestor that it meets is counted here, and written where there is room.
 #![tactic(auto)]
+
 ghost use Rattle.std.specs.Prelude.{◌≡◌, [], ◌∷◌};
 ghost use Rattle.tally.specs.Tasks.{accepts};
 ghost use Rattle.tally.specs.Tallies.{Tallied, stepped, fresh_tally, Small};

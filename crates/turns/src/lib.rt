@@ -1,5 +1,6 @@
 // A SEAT'S TURN in a round: its next pairs into its own words of the buffer. And all eight turns, with the seats by value.
 #![tactic(auto)]
+
 ghost use Rattle.regions.specs.Desk.{open_at};
 ghost use Rattle.image.specs.Read.{set_of};
 ghost use Rattle.turns.specs.Steps.{MayTurn, Hands, Turns, MayServe, Serves};

@@ -1,5 +1,6 @@
 // Words: the readers that every other crate leans on.
 #![tactic(auto)]
+
 ghost use Rattle.std.specs.Prelude.{◌≡◌, ◌<◌, get_or};
 
 // A word as a size, for sums that must not wrap.

@@ -1,5 +1,4 @@
 -- `answers::put_four` meets its contract: without room nothing is written, else the four words.
-use borrow.Author.Rules.{rules}
 use native.Mathlib.Omega.{arith}
 use mathlib.Core.Path.{sym}
 use lib.ListN.{length-set}

@@ -1,5 +1,4 @@
 -- `answers::put_pair` meets its contract: the item is its four words.
-use borrow.Author.Rules.{rules}
 use mathlib.Core.Path.{◌∙◌}
 use Rattle.regions.specs.Calls.{pair_words, pair_of}
 use Rattle.answers.specs.Items.{as_words}

@@ -1,5 +1,4 @@
 -- `answers::put_region` meets its contract: the item is its four words.
-use borrow.Author.Rules.{rules}
 use mathlib.Core.Path.{◌∙◌}
 use Rattle.regions.specs.Calls.{region_words}
 use Rattle.answers.specs.Items.{as_words}

@@ -1,5 +1,4 @@
 -- `audit::audit` meets its contract: the three parts decide validity.
-use borrow.Author.Rules.{rules}
 use mathlib.Core.Path.{sym, ◌∙◌}
 use Rattle.words.proofs.Tests.{T_of, not_true, not_false}
 use Rattle.audit.proofs.Ways.{no_shape, no_regions, no_lists, all_right}

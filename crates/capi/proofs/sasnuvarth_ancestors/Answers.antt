@@ -1,5 +1,4 @@
 -- `capi::sasnuvarth_ancestors` meets its contract: the search's own promise, at the choice that the number means.
-use borrow.Author.Rules.{rules}
 use Rattle.capi.proofs.Told.{finds_at}
 use Rattle.capi.proofs.sasnuvarth_ancestors.Goals as goal
 

@@ -1,5 +1,4 @@
 -- `capi::sasnuvarth_close_seat` meets its contract.
-use borrow.Author.Rules.{rules}
 use Rattle.capi.proofs.Calls.{closes_seat_lem}
 use Rattle.capi.proofs.sasnuvarth_close_seat.Goals as goal
 

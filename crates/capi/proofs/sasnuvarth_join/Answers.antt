@@ -1,5 +1,4 @@
 -- `capi::sasnuvarth_join` meets its contract: the join's own promise, at the kind that the number means.
-use borrow.Author.Rules.{rules}
 use Rattle.capi.proofs.Told.{joins_at}
 use Rattle.capi.proofs.sasnuvarth_join.Goals as goal
 

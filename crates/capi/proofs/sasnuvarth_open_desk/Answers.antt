@@ -1,5 +1,4 @@
 -- `capi::sasnuvarth_open_desk` meets its contract.
-use borrow.Author.Rules.{rules}
 use Rattle.capi.proofs.Calls.{opens_desk}
 use Rattle.capi.proofs.sasnuvarth_open_desk.Goals as goal
 

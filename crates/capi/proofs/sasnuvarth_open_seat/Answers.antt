@@ -1,5 +1,4 @@
 -- `capi::sasnuvarth_open_seat` meets its contract.
-use borrow.Author.Rules.{rules}
 use Rattle.capi.proofs.Calls.{opens_seat_lem}
 use Rattle.capi.proofs.sasnuvarth_open_seat.Goals as goal
 

@@ -1,5 +1,4 @@
 -- `capi::sasnuvarth_parent` meets its contract: what is told of each of the three answers.
-use borrow.Author.Rules.{rules}
 use Rattle.words.specs.Lists.{some}
 use Rattle.queries.specs.Searches.{parent_number, parent_found}
 use Rattle.capi.specs.Border.{told}

@@ -1,5 +1,4 @@
 -- `capi::sasnuvarth_part` meets its contract.
-use borrow.Author.Rules.{rules}
 use Rattle.capi.proofs.Calls.{part_there, part_refused}
 use Rattle.capi.proofs.sasnuvarth_part.Goals as goal
 

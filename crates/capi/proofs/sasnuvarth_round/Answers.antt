@@ -1,5 +1,4 @@
 -- `capi::sasnuvarth_round` meets its contract.
-use borrow.Author.Rules.{rules}
 use Rattle.capi.proofs.Calls.{rounds}
 use Rattle.capi.proofs.sasnuvarth_round.Goals as goal
 

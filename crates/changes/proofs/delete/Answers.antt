@@ -1,5 +1,4 @@
 -- `changes::delete` meets its contract.
-use borrow.Author.Rules.{rules}
 use mathlib.Core.Path.{refl, sym, ◌∙◌}
 use Rattle.changes.proofs.delete.Goals as goal
 

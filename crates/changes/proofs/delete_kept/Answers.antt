@@ -1,5 +1,4 @@
 -- `changes::delete_kept` meets its contract.
-use borrow.Author.Rules.{rules}
 use Rattle.changes.proofs.Counts.{stays_counted, delete_counts, delete_counted}
 use Rattle.changes.proofs.delete_kept.Goals as goal
 

@@ -1,5 +1,4 @@
 -- `changes::save` meets its contract.
-use borrow.Author.Rules.{rules}
 use mathlib.Core.Path.{refl, sym, ◌∙◌}
 use Rattle.changes.proofs.save.Goals as goal
 

@@ -1,5 +1,4 @@
 -- `changes::save_kept` meets its contract.
-use borrow.Author.Rules.{rules}
 use Rattle.changes.proofs.Counts.{stays_counted, save_counts, save_counted}
 use Rattle.changes.proofs.save_kept.Goals as goal
 

@@ -1,5 +1,4 @@
 -- `clashes::contradicts_held` meets its contract: the two tests of `levels_test`, in turn.
-use borrow.Author.Rules.{rules}
 use Rattle.clashes.proofs.Levels.{level_around, level_inside}
 use Rattle.clashes.proofs.contradicts_held.Goals as goal
 

@@ -1,5 +1,4 @@
 -- `clashes::crosses_held` meets its contract: the three tests of `crossing_test`, in turn.
-use borrow.Author.Rules.{rules}
 use Rattle.clashes.proofs.Reaching.{cross_start, cross_end, cross_inner}
 use Rattle.clashes.proofs.crosses_held.Goals as goal
 

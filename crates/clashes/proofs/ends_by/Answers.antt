@@ -1,5 +1,4 @@
 -- `clashes::ends_by` meets its contract: none, or by its end.
-use borrow.Author.Rules.{rules}
 use Rattle.clashes.proofs.Reaching.{none_ends, found_ends}
 use Rattle.clashes.proofs.ends_by.Goals as goal
 

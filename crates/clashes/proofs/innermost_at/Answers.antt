@@ -1,5 +1,4 @@
 -- `clashes::innermost_at` meets its contract: none reaches 0; else of those that hold the position before x with self the last one met is the innermost.
-use borrow.Author.Rules.{rules}
 use Rattle.clashes.proofs.Reaching.{reach_zero, reach_last}
 use Rattle.clashes.proofs.innermost_at.Goals as goal
 

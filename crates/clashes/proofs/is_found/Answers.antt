@@ -1,5 +1,4 @@
 -- `clashes::is_found` meets its contract: whether there is one.
-use borrow.Author.Rules.{rules}
 use Rattle.clashes.proofs.Reaching.{none_some, some_found}
 use Rattle.clashes.proofs.is_found.Goals as goal
 

@@ -1,5 +1,4 @@
 -- `clashes::level_from` meets its contract: none, or by its level.
-use borrow.Author.Rules.{rules}
 use Rattle.clashes.proofs.Levels.{none_level, found_level}
 use Rattle.clashes.proofs.level_from.Goals as goal
 

@@ -1,5 +1,4 @@
 -- `clashes::region_at` meets its contract: the first entry that does not start before y is the held region with that start, or there is none.
-use borrow.Author.Rules.{rules}
 use mathlib.Core.Path.{◌∙◌}
 use Rattle.leaves.proofs.Faces.{faces_few}
 use Rattle.clashes.proofs.Starts.{step_finds, none_left, starts_elsewhere, starts_here}

@@ -1,5 +1,4 @@
 -- `clashes::starts_past` meets its contract: none, or by its start.
-use borrow.Author.Rules.{rules}
 use Rattle.clashes.proofs.Reaching.{none_starts, found_starts}
 use Rattle.clashes.proofs.starts_past.Goals as goal
 

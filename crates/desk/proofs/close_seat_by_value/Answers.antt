@@ -1,6 +1,5 @@
 -- `desk::close_seat_by_value` meets its contract: the two tests refuse, and else the seat is stored as `closes` hands it back.
 use mathlib.Core.Path.{sym, ◌∙◌}
-use borrow.Author.Tests.{not-true, not-false}
 use Rattle.desk.proofs.Answered.{close_no_desk, close_no_seat, close_stored}
 use borrow.Author.Rules.{rules}
 use Rattle.desk.proofs.close_seat_by_value.Goals as goal

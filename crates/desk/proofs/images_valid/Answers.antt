@@ -1,6 +1,4 @@
 -- `desk::images_valid` meets its contract: by what the audits decide.
-use borrow.Author.Tests.{not-true, not-false}
-use borrow.Author.Rules.{rules}
 use Rattle.desk.proofs.images_valid.Goals as goal
 
 pub returns-then-not-is_valid : goal.returns-then-not-is_valid

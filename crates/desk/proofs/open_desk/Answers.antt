@@ -1,5 +1,5 @@
 use mathlib.Core.Path.{◌≡◌, refl, sym, ap, ◌∙◌, subst}
-use lib.ListN.{length, set, replicate, get_or-replicate}
+use lib.ListN.{set, replicate, get_or-replicate}
 use native.Mathlib.Omega.{arith}
 use native.Mathlib.Numerals.{add-one}
 use Rattle.regions.specs.Desk.{closed}
@@ -23,8 +23,8 @@ loop-at-preserved c =
       omega arith,
       i.1,
       ap (λ l. set l c.loop-at.at c.closed_seat-s.result) i.2
-      ∙ ap (set (put_at (λ _. closed) c.loop-at.at ys) c.loop-at.at) c.closed_seat-s.ensures
-      ∙ ap (λ k. put_at (λ _. closed) k ys) (sym (add-one c.loop-at.at)),
+          ∙ ap (set (put_at (λ _. closed) c.loop-at.at ys) c.loop-at.at) c.closed_seat-s.ensures
+          ∙ ap (λ k. put_at (λ _. closed) k ys) (sym (add-one c.loop-at.at)),
     )
 
 pub returns : goal.returns

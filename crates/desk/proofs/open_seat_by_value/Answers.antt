@@ -1,6 +1,5 @@
 -- `desk::open_seat_by_value` meets its contract: the two tests refuse, and else the seat is stored as `opens` hands it back.
 use mathlib.Core.Path.{sym, ◌∙◌}
-use borrow.Author.Tests.{not-true, not-false}
 use Rattle.desk.proofs.Answered.{open_no_desk, open_no_seat, open_stored}
 use borrow.Author.Rules.{rules}
 use Rattle.desk.proofs.open_seat_by_value.Goals as goal

@@ -1,10 +1,9 @@
 -- `desk::part` meets its contract: by the number, and by the words that are there where it is 0.
 use Prim.Native.Nat.{ℕ}
-use mathlib.Core.Path.{sym, ◌∙◌, subst}
+use mathlib.Core.Path.{sym, subst}
 use Rattle.parts.specs.Lent.{PartBy, PartThere}
 use Rattle.desk.proofs.Answered.{part_is}
 use Rattle.desk.proofs.Tested.{part_there}
-use borrow.Author.Rules.{rules}
 use Rattle.desk.proofs.part.Goals as goal
 
 pub part_words-requires : goal.part_words-requires

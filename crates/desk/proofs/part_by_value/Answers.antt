@@ -4,7 +4,6 @@ use mathlib.Core.Path.{sym, ◌∙◌, subst}
 use Rattle.parts.specs.Lent.{PartBy, PartThere}
 use Rattle.desk.proofs.Answered.{parts_number, part_is}
 use Rattle.desk.proofs.Tested.{part_there}
-use borrow.Author.Rules.{rules}
 use Rattle.desk.proofs.part_by_value.Goals as goal
 
 pub part_words-requires : goal.part_words-requires

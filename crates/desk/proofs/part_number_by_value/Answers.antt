@@ -1,7 +1,6 @@
 -- `desk::part_number_by_value` meets its contract: by the buffer's length.
 use mathlib.Core.Path.{◌∙◌}
 use Rattle.desk.proofs.Answered.{parts_number}
-use borrow.Author.Rules.{rules}
 use Rattle.desk.proofs.part_number_by_value.Goals as goal
 
 pub returns : goal.returns

@@ -1,8 +1,6 @@
-use mathlib.Core.Path.{sym}
 use native.Mathlib.Omega.{arith}
 use Rattle.seats.proofs.Fitting.{eight_seats}
-use Rattle.turns.specs.Steps.{MayServe}
-use Rattle.turns.proofs.ByTurns.{stands_first, stands_long, stands_may, stands_next, stands_last}
+use Rattle.turns.proofs.ByTurns.{stands_first, stands_may, stands_next, stands_last}
 use Rattle.desk.proofs.Served.{number_told, may_serve, round_refused, round_served}
 use Rattle.desk.proofs.round.Goals as goal
 

@@ -1,6 +1,5 @@
 -- `desk::round_by_value` meets its contract: by its number, and where that is 0 by what all eight turns do.
 use Rattle.desk.proofs.Served.{number_told, may_serve, round_refused, round_served}
-use borrow.Author.Rules.{rules}
 use Rattle.desk.proofs.round_by_value.Goals as goal
 
 pub returns-then-number-ne0 : goal.returns-then-number-ne0

@@ -1,8 +1,6 @@
-use borrow.Author.Rules.{rules}
 use Prim.Native.Nat.{◌-◌}
 use mathlib.Core.Path.{◌∙◌}
-use Rattle.pages.specs.Layout.{page_of}
-use Rattle.entries.proofs.Turns.{Before, before_start, before_found, before_on, before_end}
+use Rattle.entries.proofs.Turns.{before_start, before_found, before_on, before_end}
 use Rattle.entries.proofs.entries_before.Goals as goal
 
 pub loop-i-init : goal.loop-i-init

@@ -1,9 +1,7 @@
 -- `entries::entries_before` counts as `entries_before` does. The invariant: what is left, from entry i on, gives the whole.
-use borrow.Author.Rules.{rules}
 use Prim.Native.Nat.{◌-◌}
-use mathlib.Core.Path.{◌∙◌}
 use Rattle.pages.specs.Layout.{page_of}
-use Rattle.entries.proofs.Turns.{Before, before_start, before_found, before_on, before_end}
+use Rattle.entries.proofs.Turns.{Before}
 use Rattle.entries.proofs.entries_before.Given as goal
 
 abbrev pub invariant-loop-i : goal.invariant-loop-i

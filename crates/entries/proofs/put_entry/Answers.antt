@@ -1,5 +1,4 @@
 -- `entries::put_entry` puts the region into its leaf and into its owner's list.
-use borrow.Author.Rules.{rules}
 use Rattle.entries.proofs.Saving.{put_owner_asks, put_leaf_asks, put_list_asks, put_done}
 use Rattle.entries.proofs.put_entry.Goals as goal
 

@@ -1,5 +1,4 @@
 -- `entries::take_entry` takes the region out of its leaf and out of its owner's list.
-use borrow.Author.Rules.{rules}
 use Rattle.entries.proofs.Deleting.{leaf_few, entry_below, owner_asks, take_leaf_asks, take_list_asks, take_done}
 use Rattle.entries.proofs.take_entry.Goals as goal
 

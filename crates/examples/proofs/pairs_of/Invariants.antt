@@ -1,8 +1,5 @@
 -- `examples::pairs_of` is safe and ends.
-use borrow.Author.Rules.{rules}
 use Prim.Native.Nat.{◌-◌, ◌≤◌}
-use native.Mathlib.Omega.{arith}
-use mathlib.Core.Logic.{⊎_elim}
 use Rattle.examples.proofs.pairs_of.Given as goal
 
 abbrev pub invariant-loop-i : goal.invariant-loop-i

@@ -1,5 +1,4 @@
 -- `flat::desk_left` meets its contract.
-use borrow.Author.Rules.{rules}
 use mathlib.Core.Path.{◌∙◌}
 use borrow.Author.Tests.{eq-eqb, ne_eqb}
 use Rattle.flat.proofs.desk_left.Goals as goal

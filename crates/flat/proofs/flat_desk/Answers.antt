@@ -1,5 +1,4 @@
 -- `flat::flat_desk` meets its contract: seat after seat.
-use borrow.Author.Rules.{rules}
 use Rattle.flat.specs.Seats.{flat_seat}
 use Rattle.flat.proofs.Flat.{eight}
 use Rattle.flat.proofs.flat_desk.Goals as goal

@@ -1,5 +1,4 @@
 -- `flat::flat_open` meets its contract.
-use borrow.Author.Rules.{rules}
 use Rattle.flat.specs.Seats.{flat_marked}
 use Rattle.flat.proofs.Flat.{flat_at}
 use Rattle.flat.proofs.flat_open.Goals as goal

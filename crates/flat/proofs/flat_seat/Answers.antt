@@ -1,5 +1,4 @@
 -- `flat::flat_seat` meets its contract.
-use borrow.Author.Rules.{rules}
 use mathlib.Core.Path.{sym, ap, ◌∙◌}
 use Rattle.flat.specs.Seats.{flat_state}
 use Rattle.flat.proofs.flat_seat.Goals as goal

@@ -1,5 +1,4 @@
 -- `flat::kind_number` meets its contract.
-use borrow.Author.Rules.{rules}
 use mathlib.Core.Path.{sym, ap}
 use Rattle.flat.specs.Numbers.{kind_number}
 use Rattle.flat.proofs.kind_number.Goals as goal

@@ -1,5 +1,4 @@
 -- `flat::seat_of_numbers` meets its contract: the kind and the mark stand in the open seat as their numbers mean them.
-use borrow.Author.Rules.{rules}
 use borrow.Author.Tests.{eq-eqb, ne_eqb}
 use Rattle.flat.specs.Numbers.{seat_of_numbers}
 use Rattle.flat.proofs.seat_of_numbers.Goals as goal

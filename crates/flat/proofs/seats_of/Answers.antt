@@ -1,5 +1,4 @@
 -- `flat::seats_of` meets its contract: seat after seat.
-use borrow.Author.Rules.{rules}
 use Rattle.flat.specs.Seats.{seat_of}
 use Rattle.flat.proofs.Flat.{eight}
 use Rattle.flat.proofs.seats_of.Goals as goal

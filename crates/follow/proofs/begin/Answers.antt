@@ -1,5 +1,4 @@
 -- `follow::begin` meets its contract: at the account's first position the stack is empty; at a mark it is made by a search.
-use borrow.Author.Rules.{rules}
 use native.Mathlib.Omega.{arith}
 use mathlib.Core.Path.{refl}
 use Rattle.regions.proofs.Means.{late_near}

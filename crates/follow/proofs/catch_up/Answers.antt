@@ -1,13 +1,8 @@
-use borrow.Author.Rules.{rules}
 use mathlib.Core.Path.{sym, ◌∙◌}
 use native.Mathlib.Omega.{arith}
-use lib.ListN.{length}
-use Rattle.regions.specs.Positions.{too_late}
 use Rattle.regions.proofs.Means.{late_near}
 use Rattle.image.proofs.Sound.{set_rises, valid_sound}
-use Rattle.leaves.specs.Cursors.{left}
 use Rattle.leaves.proofs.Faces.{faces_few, faces_less}
-use Rattle.follow.specs.Places.{Coming}
 use Rattle.follow.proofs.Moves.{in_time, too_late_lem, coming_end, coming_there, coming_room, coming_on}
 use Rattle.follow.proofs.catch_up.Goals as goal
 

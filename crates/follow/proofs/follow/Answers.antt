@@ -1,5 +1,4 @@
 -- `follow::follow` meets its contract: what has ended is popped, and the way is made.
-use borrow.Author.Rules.{rules}
 use native.Mathlib.Omega.{arith}
 use Rattle.image.proofs.Sound.{valid_sound}
 use Rattle.follow.proofs.Moves.{placed_few, behind_falls, behind_coming}

@@ -1,5 +1,4 @@
 -- `follow::refill` meets its contract: all ancestors have room.
-use borrow.Author.Rules.{rules}
 use native.Mathlib.Omega.{arith}
 use Rattle.image.proofs.Sound.{valid_sound}
 use Rattle.path.proofs.Ways.{descend_asks}

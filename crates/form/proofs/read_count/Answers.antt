@@ -1,5 +1,4 @@
 -- `form::read_count` meets its contract.
-use borrow.Author.Rules.{rules}
 use native.Mathlib.Omega.{arith}
 use Rattle.words.proofs.Tests.{not_true, not_false}
 use Rattle.form.proofs.Lines.{count_form, count_over, count_read}

@@ -1,5 +1,4 @@
 -- `form::read_region` meets its contract.
-use borrow.Author.Rules.{rules}
 use native.Mathlib.Omega.{arith}
 use Rattle.form.proofs.Lines.{region_line}
 use Rattle.form.proofs.read_region.Goals as goal

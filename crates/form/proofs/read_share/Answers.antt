@@ -1,5 +1,4 @@
 -- `form::read_share` meets its contract.
-use borrow.Author.Rules.{rules}
 use native.Mathlib.Omega.{arith}
 use Rattle.words.proofs.Tests.{not_true, not_false}
 use Rattle.form.proofs.Lines.{share_form, share_falls, share_none, share_foreign, share_right}

@@ -1,10 +1,8 @@
-use borrow.Author.Rules.{rules}
-use Prim.Native.Nat.{◌+◌, ◌-◌, ◌≤◌}
-use mathlib.Core.Path.{◌≡◌, refl, sym, ◌∙◌}
+use Prim.Native.Nat.{◌+◌, ◌-◌}
+use mathlib.Core.Path.{refl, sym, ◌∙◌}
 use native.Mathlib.Omega.{arith}
-use lib.ListN.{length, length-set}
-use Rattle.form.specs.Form.{items, section, no_shares, share_no, shared}
-use Rattle.form.specs.Steps.{place_at, Stands}
+use lib.ListN.{length-set}
+use Rattle.form.specs.Form.{no_shares, share_no, shared}
 use Rattle.form.proofs.Sections.{stands_on, section_goes, section_ends, items_go, items_end, items_none, shared_is, heard_same, shares_refused}
 use Rattle.form.proofs.read_shares.Goals as goal
 

@@ -1,12 +1,9 @@
 -- `form::read_shares` meets its contract.
-use borrow.Author.Rules.{rules}
-use Prim.Native.Nat.{◌+◌, ◌-◌, ◌≤◌}
-use mathlib.Core.Path.{◌≡◌, refl, sym, ◌∙◌}
-use native.Mathlib.Omega.{arith}
-use lib.ListN.{length, length-set}
+use Prim.Native.Nat.{◌-◌, ◌≤◌}
+use mathlib.Core.Path.{◌≡◌}
+use lib.ListN.{length}
 use Rattle.form.specs.Form.{items, section, no_shares, share_no, shared}
 use Rattle.form.specs.Steps.{place_at, Stands}
-use Rattle.form.proofs.Sections.{stands_on, section_goes, section_ends, items_go, items_end, items_none, shared_is, heard_same, shares_refused}
 use Rattle.form.proofs.read_shares.Given as goal
 
 abbrev pub invariant-loop-i : goal.invariant-loop-i

@@ -1,10 +1,9 @@
-use borrow.Author.Rules.{rules}
 use Prim.Native.Nat.{◌-◌, ◌<◌}
 use native.Mathlib.Omega.{arith}
 use native.Mathlib.Numerals.{add-one}
 use Rattle.pages.specs.Layout.{fill_of}
 use mathlib.Core.Path.{sym, ◌∙◌}
-use Rattle.handing.proofs.Clearing.{list_at, ClearInv, clear_start, clear_yes, clear_no, clear_end}
+use Rattle.handing.proofs.Clearing.{clear_start, clear_yes, clear_no, clear_end}
 use Prim.Native.Nat.{◌-◌}
 use Rattle.handing.proofs.clear_flags.Goals as goal
 use Rattle.handing.proofs.clear_flags.Goals.{then-in_list, else-in_list}
@@ -21,8 +20,8 @@ set_flag-cleared-requires c = let v = c.loop-i.invariant in (omega (arith, v.fil
 pub loop-i-preserved : goal.loop-i-preserved
 loop-i-preserved c = let v = c.loop-i.invariant in let u : c.loop-i.i < fill_of c.args.leaf = omega (arith, c.loop-i-test.true, c.wide-n.ensures) in
     rw add-one (elim c.if-in_list.branch [
-    | then-in_list w ↦ rw w.ws-is (clear_yes v _ _ u c.start_in.ensures (sym c.in_list.ensures ∙ w.if-in_list.true) w.set_flag-cleared.ensures)
-    | else-in_list w ↦ rw w.ws-is (clear_no v _ u c.start_in.ensures (sym c.in_list.ensures ∙ w.if-in_list.false))
+      | then-in_list w ↦ rw w.ws-is (clear_yes v _ _ u c.start_in.ensures (sym c.in_list.ensures ∙ w.if-in_list.true) w.set_flag-cleared.ensures)
+      | else-in_list w ↦ rw w.ws-is (clear_no v _ u c.start_in.ensures (sym c.in_list.ensures ∙ w.if-in_list.false))
     ])
 
 pub returns : goal.returns

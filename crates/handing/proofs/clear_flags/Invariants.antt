@@ -1,12 +1,6 @@
 -- `clear_flags` clears the flags of a leaf, entry by entry; the measure is what is left of the fill.
-use borrow.Author.Rules.{rules}
-use Prim.Native.Nat.{◌-◌, ◌<◌}
-use native.Mathlib.Omega.{arith}
-use native.Mathlib.Numerals.{add-one}
-use mathlib.Core.Logic.{⊎_elim}
-use Rattle.pages.specs.Layout.{fill_of}
-use mathlib.Core.Path.{sym, ◌∙◌}
-use Rattle.handing.proofs.Clearing.{list_at, ClearInv, clear_start, clear_yes, clear_no, clear_end}
+use Prim.Native.Nat.{◌-◌}
+use Rattle.handing.proofs.Clearing.{list_at, ClearInv}
 use Prim.Native.Nat.{◌-◌}
 use Rattle.handing.proofs.clear_flags.Given as goal
 

@@ -1,10 +1,8 @@
-use borrow.Author.Rules.{rules}
 use mathlib.Core.Path.{ap}
 use lib.ListN.{length}
 use native.Mathlib.Omega.{arith}
-use Rattle.image.specs.Read.{list_places}
 use Rattle.records.proofs.Chains.{step}
-use Rattle.handing.proofs.Clearing.{ListInv, list_start, list_end, list_found, list_on}
+use Rattle.handing.proofs.Clearing.{list_start, list_end, list_found, list_on}
 use Rattle.handing.proofs.in_list.Goals as goal
 
 pub loop-q-init : goal.loop-q-init

@@ -1,11 +1,7 @@
 -- `in_list` walks a list for a region with a given start. What is left of the walk gives the whole walk's answer; the measure is the length of what is left.
-use borrow.Author.Rules.{rules}
-use mathlib.Core.Path.{ap}
 use lib.ListN.{length}
-use native.Mathlib.Omega.{arith}
 use Rattle.image.specs.Read.{list_places}
-use Rattle.records.proofs.Chains.{step}
-use Rattle.handing.proofs.Clearing.{ListInv, list_start, list_end, list_found, list_on}
+use Rattle.handing.proofs.Clearing.{ListInv}
 use Rattle.handing.proofs.in_list.Given as goal
 
 abbrev pub invariant-loop-q : goal.invariant-loop-q

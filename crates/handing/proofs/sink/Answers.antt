@@ -1,9 +1,8 @@
-use borrow.Author.Rules.{rules}
 use Prim.Native.Nat.{◌-◌}
 use native.Mathlib.Omega.{arith}
 use native.Mathlib.Numerals.{add-one}
 use mathlib.Core.Path.{◌∙◌}
-use Rattle.handing.proofs.Sinking.{SinkInv, sink_start, sink_ends, sink_turn, sink_end}
+use Rattle.handing.proofs.Sinking.{sink_start, sink_ends, sink_turn, sink_end}
 use Rattle.handing.proofs.sink.Goals as goal
 
 pub loop-i-init : goal.loop-i-init

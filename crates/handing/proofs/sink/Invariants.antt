@@ -1,10 +1,6 @@
 -- `sink` hands a key's list down to the keys of a page; the measure is what is left of the fill.
-use borrow.Author.Rules.{rules}
 use Prim.Native.Nat.{◌-◌}
-use native.Mathlib.Omega.{arith}
-use native.Mathlib.Numerals.{add-one}
-use mathlib.Core.Path.{◌∙◌}
-use Rattle.handing.proofs.Sinking.{SinkInv, sink_start, sink_ends, sink_turn, sink_end}
+use Rattle.handing.proofs.Sinking.{SinkInv}
 use Rattle.handing.proofs.sink.Given as goal
 
 abbrev pub invariant-loop-i : goal.invariant-loop-i

@@ -1,5 +1,4 @@
 -- `index::apply` meets its contract.
-use borrow.Author.Rules.{rules}
 use mathlib.Core.Path.{refl}
 use Rattle.index.proofs.Batched.{single_save, single_delete, single_neither}
 use Rattle.index.proofs.apply.Goals as goal

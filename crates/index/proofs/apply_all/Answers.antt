@@ -1,12 +1,7 @@
-use borrow.Author.Rules.{rules}
-use Prim.Native.Nat.{◌-◌, ◌≤◌}
-use mathlib.Core.Path.{◌≡◌, refl}
+use Prim.Native.Nat.{◌-◌}
+use mathlib.Core.Path.{refl}
 use native.Mathlib.Omega.{arith}
-use lib.Dec.{T}
-use lib.ListN.{length, length-set}
-use Rattle.image.specs.Valid.{valid}
-use Rattle.changes.specs.Counts.{Counted}
-use Rattle.index.specs.Batches.{AnswersFirst}
+use lib.ListN.{length-set}
 use Rattle.index.proofs.Batched.{answers_none, answers_more, answers_all}
 use Rattle.index.proofs.apply_all.Goals as goal
 

@@ -1,14 +1,11 @@
 -- `index::apply_all` meets its contract: the first i items are answered, the image is valid all along and its regions are counted.
-use borrow.Author.Rules.{rules}
 use Prim.Native.Nat.{◌-◌, ◌≤◌}
-use mathlib.Core.Path.{◌≡◌, refl}
-use native.Mathlib.Omega.{arith}
+use mathlib.Core.Path.{◌≡◌}
 use lib.Dec.{T}
-use lib.ListN.{length, length-set}
+use lib.ListN.{length}
 use Rattle.image.specs.Valid.{valid}
 use Rattle.changes.specs.Counts.{Counted}
 use Rattle.index.specs.Batches.{AnswersFirst}
-use Rattle.index.proofs.Batched.{answers_none, answers_more, answers_all}
 use Rattle.index.proofs.apply_all.Given as goal
 
 abbrev pub invariant-loop-i : goal.invariant-loop-i

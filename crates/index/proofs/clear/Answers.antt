@@ -1,8 +1,7 @@
-use borrow.Author.Rules.{rules}
-use Prim.Native.Nat.{◌-◌, ◌≤◌}
-use mathlib.Core.Path.{◌≡◌, refl}
+use Prim.Native.Nat.{◌-◌}
+use mathlib.Core.Path.{refl}
 use native.Mathlib.Omega.{arith}
-use lib.ListN.{take, length, replicate, length-set}
+use lib.ListN.{length-set}
 use Rattle.index.proofs.Opened.{cleared, all_cleared}
 use Rattle.index.proofs.clear.Goals as goal
 

@@ -1,10 +1,7 @@
 -- `index::clear` meets its contract: the words before i are 0.
-use borrow.Author.Rules.{rules}
 use Prim.Native.Nat.{◌-◌, ◌≤◌}
-use mathlib.Core.Path.{◌≡◌, refl}
-use native.Mathlib.Omega.{arith}
-use lib.ListN.{take, length, replicate, length-set}
-use Rattle.index.proofs.Opened.{cleared, all_cleared}
+use mathlib.Core.Path.{◌≡◌}
+use lib.ListN.{take, length, replicate}
 use Rattle.index.proofs.clear.Given as goal
 
 abbrev pub invariant-loop-i : goal.invariant-loop-i

@@ -1,8 +1,7 @@
 -- `index::delete` meets its contract.
-use borrow.Author.Rules.{rules}
 use mathlib.Core.Path.{sym, ◌∙◌}
 use native.Mathlib.Omega.{arith}
-use Rattle.words.proofs.Tests.{T_of, not_true, not_false}
+use Rattle.words.proofs.Tests.{T_of}
 use Rattle.regions.proofs.Numbers.{image_number}
 use Rattle.index.proofs.Changed.{delete_refused, delete_tested}
 use Rattle.index.proofs.delete.Goals as goal

@@ -1,5 +1,4 @@
 -- `index::item_region` meets its contract.
-use borrow.Author.Rules.{rules}
 use Rattle.regions.proofs.Items.{region_at_lem}
 use Rattle.index.proofs.item_region.Goals as goal
 

@@ -3,7 +3,6 @@ use borrow.Author.Rules.{rules}
 use native.Mathlib.Omega.{arith}
 use mathlib.Core.Path.{sym, ◌∙◌}
 use lib.ListN.{length-set}
-use Rattle.words.proofs.Tests.{not_true, not_false}
 use Rattle.index.proofs.Opened.{open_image, open_shares, open_done, image_opened}
 use Rattle.index.proofs.open_set.Goals as goal
 

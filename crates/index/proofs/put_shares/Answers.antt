@@ -1,9 +1,8 @@
 use borrow.Author.Rules.{rules}
-use Prim.Native.Nat.{◌+◌, ◌-◌, ◌≤◌}
-use mathlib.Core.Path.{◌≡◌, sym, refl, ◌∙◌}
+use Prim.Native.Nat.{◌-◌}
+use mathlib.Core.Path.{sym, refl, ◌∙◌}
 use native.Mathlib.Omega.{arith}
-use lib.ListN.{drop, length, length-set}
-use lib.Seq.{sets}
+use lib.ListN.{length-set}
 use Rattle.index.proofs.Opened.{put_more, put_done}
 use Rattle.index.proofs.put_shares.Goals as goal
 

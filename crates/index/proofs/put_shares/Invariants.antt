@@ -1,11 +1,8 @@
 -- `index::put_shares` meets its contract: what is left to write gives the whole.
-use borrow.Author.Rules.{rules}
 use Prim.Native.Nat.{◌+◌, ◌-◌, ◌≤◌}
-use mathlib.Core.Path.{◌≡◌, sym, refl, ◌∙◌}
-use native.Mathlib.Omega.{arith}
-use lib.ListN.{drop, length, length-set}
+use mathlib.Core.Path.{◌≡◌}
+use lib.ListN.{drop, length}
 use lib.Seq.{sets}
-use Rattle.index.proofs.Opened.{put_more, put_done}
 use Rattle.index.proofs.put_shares.Given as goal
 
 abbrev pub invariant-loop-a : goal.invariant-loop-a

@@ -1,5 +1,4 @@
 -- `index::save` meets its contract.
-use borrow.Author.Rules.{rules}
 use mathlib.Core.Path.{sym, ◌∙◌}
 use native.Mathlib.Omega.{arith}
 use Rattle.words.proofs.Tests.{T_of, not_true, not_false}

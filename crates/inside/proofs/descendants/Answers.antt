@@ -1,5 +1,4 @@
 -- `inside::descendants` meets its contract: what the walk lists are the descendants.
-use borrow.Author.Rules.{rules}
 use mathlib.Core.Path.{refl}
 use Rattle.image.specs.Read.{set_of}
 use Rattle.inside.proofs.Walks.{lists_descendants}

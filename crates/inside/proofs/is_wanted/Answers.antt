@@ -1,5 +1,4 @@
 -- `inside::is_wanted` meets its contract, kind by kind.
-use borrow.Author.Rules.{rules}
 use mathlib.Core.Path.{◌∙◌}
 use Rattle.inside.proofs.Walks.{wants_all, wants_below, wants_up_to}
 use Rattle.inside.proofs.is_wanted.Goals as goal

@@ -1,5 +1,4 @@
 -- `inside::some_up_to` meets its contract: with no room for a region, more remain exactly where there is one.
-use borrow.Author.Rules.{rules}
 use mathlib.Core.Path.{refl}
 use Rattle.image.specs.Read.{set_of}
 use Rattle.inside.proofs.Walks.{some_wanted}

@@ -1,7 +1,5 @@
 -- `inside::take` meets its contract: passed by, or written and counted.
-use borrow.Author.Rules.{rules}
 use mathlib.Core.Path.{sym, ◌∙◌}
-use Rattle.words.proofs.Tests.{not_true, not_false}
 use Rattle.inside.proofs.Walks.{took_not, took_one}
 use Rattle.inside.proofs.take.Goals as goal
 

@@ -1,15 +1,7 @@
-use borrow.Author.Rules.{rules}
-use Prim.Native.Nat.{◌≤◌, ◌/◌}
 use mathlib.Core.Path.{sym, ◌∙◌}
 use native.Mathlib.Omega.{arith}
-use lib.ListN.{length}
-use Rattle.words.specs.Lists.{filter}
-use Rattle.regions.specs.Sets.{starts_behind}
-use Rattle.image.specs.Read.{set_of}
-use Rattle.leaves.specs.Cursors.{left}
 use Rattle.leaves.proofs.Faces.{faces_few, faces_less}
-use Rattle.inside.specs.Lists.{asked}
-use Rattle.inside.proofs.Walks.{Walking, walk_start, walk_end, walk_stop, walk_more, walk_on}
+use Rattle.inside.proofs.Walks.{walk_start, walk_end, walk_stop, walk_more, walk_on}
 use Rattle.inside.proofs.walk.Goals as goal
 
 pub loop-entry-init : goal.loop-entry-init

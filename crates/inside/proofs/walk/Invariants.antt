@@ -1,17 +1,13 @@
 -- `inside::walk` meets its contract. The invariant: what is asked for of the regions before the cursor is still to be counted and written.
 -- The measure: how many entries are left.
-use borrow.Author.Rules.{rules}
 use Prim.Native.Nat.{◌≤◌, ◌/◌}
-use mathlib.Core.Path.{sym, ◌∙◌}
-use native.Mathlib.Omega.{arith}
 use lib.ListN.{length}
 use Rattle.words.specs.Lists.{filter}
 use Rattle.regions.specs.Sets.{starts_behind}
 use Rattle.image.specs.Read.{set_of}
 use Rattle.leaves.specs.Cursors.{left}
-use Rattle.leaves.proofs.Faces.{faces_few, faces_less}
 use Rattle.inside.specs.Lists.{asked}
-use Rattle.inside.proofs.Walks.{Walking, walk_start, walk_end, walk_stop, walk_more, walk_on}
+use Rattle.inside.proofs.Walks.{Walking}
 use Rattle.inside.proofs.walk.Given as goal
 
 abbrev pub invariant-loop-entry : goal.invariant-loop-entry

@@ -1,15 +1,11 @@
-use borrow.Author.Rules.{rules}
 use native.Mathlib.Omega.{arith}
-use mathlib.Core.Path.{◌≡◌, refl, sym, ◌∙◌}
-use lib.ListN.{length}
-use Rattle.regions.specs.Calls.{choice_of}
+use mathlib.Core.Path.{refl, sym, ◌∙◌}
 use Rattle.regions.proofs.Means.{late_near}
 use Rattle.image.proofs.Sound.{set_rises, starts_small, valid_sound, at_most_500}
-use Rattle.leaves.specs.Cursors.{left}
 use Rattle.leaves.proofs.Faces.{faces_few}
 use Rattle.follow.proofs.Moves.{placed_few}
 use Rattle.join.proofs.Moves.{placed_holds, placed_rises}
-use Rattle.join.proofs.Turns.{Joining, start_low, join_start, join_end, join_full, join_behind, join_onward, join_inside, join_small, join_less, join_on}
+use Rattle.join.proofs.Turns.{start_low, join_start, join_end, join_full, join_behind, join_onward, join_inside, join_small, join_less, join_on}
 use Rattle.join.proofs.pairs_from.Goals as goal
 
 pub begin-s-requires : goal.begin-s-requires

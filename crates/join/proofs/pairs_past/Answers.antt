@@ -1,5 +1,4 @@
 -- `join::pairs_past` meets its contract: no d of the account is left from the first position on, or the pairs are made from the first one on.
-use borrow.Author.Rules.{rules}
 use native.Mathlib.Omega.{arith}
 use Rattle.image.proofs.Sound.{set_rises}
 use Rattle.leaves.proofs.Faces.{faces_few}

@@ -1,5 +1,4 @@
 -- `join::told` meets its contract: not all asked for, so many as fit.
-use borrow.Author.Rules.{rules}
 use Rattle.join.proofs.Ways.{told_few, told_room}
 use Rattle.join.proofs.told.Goals as goal
 

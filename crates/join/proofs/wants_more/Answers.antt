@@ -1,5 +1,4 @@
 -- `join::wants_more` meets its contract.
-use borrow.Author.Rules.{rules}
 use Rattle.join.proofs.Ways.{more_room}
 use Rattle.join.proofs.wants_more.Goals as goal
 

@@ -1,8 +1,7 @@
-use borrow.Author.Rules.{rules}
-use Prim.Native.Nat.{◌-◌, ◌≤◌}
+use Prim.Native.Nat.{◌-◌}
 use mathlib.Core.Path.{◌∙◌}
 use native.Mathlib.Omega.{arith}
-use Rattle.leafmet.proofs.Loops.{Owning, leaf_start, leaf_on_lem, leaf_done}
+use Rattle.leafmet.proofs.Loops.{leaf_start, leaf_on_lem, leaf_done}
 use Rattle.leafmet.proofs.leaf_own.Goals as goal
 
 pub loop-i-init : goal.loop-i-init

@@ -1,9 +1,6 @@
 -- `leafmet::leaf_own` meets its contract. The invariant: what is still to be met, from the next entry on, leads to the whole.
-use borrow.Author.Rules.{rules}
 use Prim.Native.Nat.{◌-◌, ◌≤◌}
-use mathlib.Core.Path.{◌∙◌}
-use native.Mathlib.Omega.{arith}
-use Rattle.leafmet.proofs.Loops.{Owning, leaf_start, leaf_on_lem, leaf_done}
+use Rattle.leafmet.proofs.Loops.{Owning}
 use Rattle.leafmet.proofs.leaf_own.Given as goal
 
 abbrev pub invariant-loop-i : goal.invariant-loop-i

@@ -1,7 +1,5 @@
 -- `leafmet::own_entry` meets its contract: the entry is in a list, beside p, or met.
-use borrow.Author.Rules.{rules}
 use mathlib.Core.Path.{sym, ◌∙◌}
-use Rattle.words.proofs.Tests.{not_true, not_false}
 use Rattle.leafmet.proofs.Loops.{entry_in_list, entry_outside, entry_visited}
 use Rattle.leafmet.proofs.own_entry.Goals as goal
 

@@ -1,9 +1,6 @@
-use borrow.Author.Rules.{rules}
 use Prim.Native.Nat.{◌-◌}
 use mathlib.Core.Path.{sym, ◌∙◌}
-use Rattle.words.proofs.Tests.{not_true, not_false}
-use Rattle.regions.specs.Positions.{too_late}
-use Rattle.leaves.proofs.Turns.{Passing, pass_start, pass_found, pass_on, pass_end}
+use Rattle.leaves.proofs.Turns.{pass_start, pass_found, pass_on, pass_end}
 use Rattle.leaves.proofs.entry_rank.Goals as goal
 
 pub loop-i-init : goal.loop-i-init

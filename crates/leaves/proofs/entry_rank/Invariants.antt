@@ -1,10 +1,7 @@
 -- `leaves::entry_rank` counts as `entry_rank` does. The invariant: the entries passed and those of the others that are counted make the whole.
-use borrow.Author.Rules.{rules}
 use Prim.Native.Nat.{◌-◌}
-use mathlib.Core.Path.{sym, ◌∙◌}
-use Rattle.words.proofs.Tests.{not_true, not_false}
 use Rattle.regions.specs.Positions.{too_late}
-use Rattle.leaves.proofs.Turns.{Passing, pass_start, pass_found, pass_on, pass_end}
+use Rattle.leaves.proofs.Turns.{Passing}
 use Rattle.leaves.proofs.entry_rank.Given as goal
 
 abbrev pub invariant-loop-i : goal.invariant-loop-i

@@ -1,5 +1,4 @@
 -- `leaves::seek_along` meets its contract: the last page of the path is the leaf where x belongs; the entry stands in it, or first in the next.
-use borrow.Author.Rules.{rules}
 use native.Mathlib.Omega.{arith}
 use mathlib.Core.Path.{◌≡◌}
 use lib.ListN.{get_or}

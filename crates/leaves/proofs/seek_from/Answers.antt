@@ -1,5 +1,4 @@
 -- `leaves::seek_from` meets its contract: down, and in the leaf reached.
-use borrow.Author.Rules.{rules}
 use Rattle.regions.specs.Positions.{too_late}
 use Rattle.path.proofs.Ways.{descend_asks}
 use Rattle.leaves.proofs.seek_from.Goals as goal

@@ -1,8 +1,8 @@
-use Prim.Native.Nat.{◌≤◌, ◌-◌}
+use Prim.Native.Nat.{◌-◌}
 use borrow.Author.Rules.{rules}
 use native.Mathlib.Omega.{arith}
 use Rattle.lines.proofs.Digits.{decimal_few}
-use Rattle.lines.proofs.Putting.{Placed, placed_first, placed_next, placed_last}
+use Rattle.lines.proofs.Putting.{placed_first, placed_next, placed_last}
 use Rattle.lines.proofs.places.Goals as goal
 
 pub loop-power-init : goal.loop-power-init

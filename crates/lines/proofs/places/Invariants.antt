@@ -1,9 +1,6 @@
 -- `lines::places` meets its contract. The loop's invariant: k digits were counted, and the rest is the number without them. The measure is how far the power may still grow.
 use Prim.Native.Nat.{◌≤◌, ◌-◌}
-use borrow.Author.Rules.{rules}
-use native.Mathlib.Omega.{arith}
-use Rattle.lines.proofs.Digits.{decimal_few}
-use Rattle.lines.proofs.Putting.{Placed, placed_first, placed_next, placed_last}
+use Rattle.lines.proofs.Putting.{Placed}
 use Rattle.lines.proofs.places.Given as goal
 
 abbrev pub invariant-loop-power : goal.invariant-loop-power

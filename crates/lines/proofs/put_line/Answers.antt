@@ -1,8 +1,8 @@
-use Prim.Native.Nat.{◌≤◌, ◌-◌}
+use Prim.Native.Nat.{◌-◌}
 use mathlib.Core.Path.{◌≡◌, refl}
 use borrow.Author.Rules.{rules}
 use native.Mathlib.Omega.{arith}
-use Rattle.lines.proofs.Putting.{Putting, putting_first, putting_room, putting_next, putting_last}
+use Rattle.lines.proofs.Putting.{putting_first, putting_room, putting_next, putting_last}
 use Rattle.lines.proofs.put_line.Goals as goal
 
 pub loop-i-init : goal.loop-i-init

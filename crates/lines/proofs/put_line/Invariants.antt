@@ -1,9 +1,6 @@
 -- `lines::put_line` meets its contract. The loop's invariant: with the numbers that are left to put, the buffer is as it should be. The measure is how many are left.
 use Prim.Native.Nat.{◌≤◌, ◌-◌}
-use mathlib.Core.Path.{◌≡◌, refl}
-use borrow.Author.Rules.{rules}
-use native.Mathlib.Omega.{arith}
-use Rattle.lines.proofs.Putting.{Putting, putting_first, putting_room, putting_next, putting_last}
+use Rattle.lines.proofs.Putting.{Putting}
 use Rattle.lines.proofs.put_line.Given as goal
 
 abbrev pub invariant-loop-i : goal.invariant-loop-i

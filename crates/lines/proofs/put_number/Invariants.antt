@@ -1,13 +1,10 @@
 -- `lines::put_number` meets its contract. The loop's invariant: with the digits that are left to put, the buffer is as it should be. The measure is how many are left.
 use Prim.Native.Nat.{◌+◌, ◌≤◌, ◌-◌}
-use mathlib.Core.Path.{◌≡◌, refl, sym, ap, ◌∙◌}
-use borrow.Author.Rules.{rules}
-use native.Mathlib.Omega.{arith}
-use lib.ListN.{length, length-set}
+use mathlib.Core.Path.{◌≡◌}
+use lib.ListN.{length}
 use lib.Seq.{sets}
 use Rattle.lines.specs.Text.{decimal}
-use Rattle.lines.proofs.Digits.{decimal_few}
-use Rattle.lines.proofs.Putting.{last_digits, decimal_last, last_put}
+use Rattle.lines.proofs.Putting.{last_digits}
 use Rattle.lines.proofs.put_number.Given as goal
 
 abbrev pub invariant-loop-i : goal.invariant-loop-i

@@ -1,11 +1,10 @@
-use Prim.Native.Nat.{◌+◌, ◌≤◌, ◌-◌}
+use Prim.Native.Nat.{◌+◌, ◌-◌}
 use mathlib.Core.Path.{◌≡◌, refl, sym, ◌∙◌}
-use borrow.Author.Rules.{rules}
 use borrow.Author.Tests.{not-true, not-false}
 use native.Mathlib.Omega.{arith}
-use lib.ListN.{length, length-set}
+use lib.ListN.{length-set}
 use Rattle.lines.proofs.Runs.{byte_in}
-use Rattle.lines.proofs.Lined.{break_some, Reading, reading_first, reading_last, reading_next, no_number_there, no_break_there}
+use Rattle.lines.proofs.Lined.{break_some, reading_first, reading_last, reading_next, no_number_there, no_break_there}
 use Rattle.lines.proofs.read_line.Goals as goal
 
 pub loop-i-init : goal.loop-i-init

@@ -1,11 +1,10 @@
-use Prim.Native.Nat.{◌≤◌, ◌-◌}
-use mathlib.Core.Path.{◌≡◌, sym, ap, ◌∙◌}
-use borrow.Author.Rules.{rules}
+use Prim.Native.Nat.{◌-◌}
+use mathlib.Core.Path.{sym, ap, ◌∙◌}
 use native.Mathlib.Omega.{arith}
-use lib.ListN.{length, get_or}
+use lib.ListN.{get_or}
 use Rattle.lines.specs.Text.{is_digit}
 use Rattle.lines.proofs.Digits.{digit_of}
-use Rattle.lines.proofs.Runs.{Counted, counted_none, counted_more, digit_in, reads_none, too_large, none_there, reads_all}
+use Rattle.lines.proofs.Runs.{counted_none, counted_more, digit_in, reads_none, too_large, none_there, reads_all}
 use Rattle.lines.proofs.read_number.Goals as goal
 
 pub read_zero-requires : goal.read_zero-requires

@@ -1,13 +1,9 @@
 -- `lines::read_number` meets its contract. The loop's invariant: the digits before i make v, which is no larger than a number may be.
 -- The measure is what is left of the text. Assumes nothing.
 use Prim.Native.Nat.{◌≤◌, ◌-◌}
-use mathlib.Core.Path.{◌≡◌, sym, ap, ◌∙◌}
-use borrow.Author.Rules.{rules}
-use native.Mathlib.Omega.{arith}
+use mathlib.Core.Path.{◌≡◌}
 use lib.ListN.{length, get_or}
-use Rattle.lines.specs.Text.{is_digit}
-use Rattle.lines.proofs.Digits.{digit_of}
-use Rattle.lines.proofs.Runs.{Counted, counted_none, counted_more, digit_in, reads_none, too_large, none_there, reads_all}
+use Rattle.lines.proofs.Runs.{Counted}
 use Rattle.lines.proofs.read_number.Given as goal
 
 abbrev pub invariant-loop-v : goal.invariant-loop-v

@@ -3,7 +3,6 @@ use mathlib.Core.Path.{sym, ap, ◌∙◌}
 use native.Mathlib.Omega.{arith}
 use Rattle.lines.specs.Text.{is_digit}
 use Rattle.lines.proofs.Runs.{byte_in, reads_none, reads_zero, led}
-use borrow.Author.Rules.{rules}
 use Rattle.lines.proofs.read_zero.Goals as goal
 
 pub overflow_add-next : goal.overflow_add-next

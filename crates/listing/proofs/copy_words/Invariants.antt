@@ -1,10 +1,7 @@
 -- `listing::copy_words` meets its contract.
-use borrow.Author.Rules.{rules}
 use Prim.Native.Nat.{◌-◌, ◌≤◌}
 use mathlib.Core.Path.{◌≡◌}
-use native.Mathlib.Omega.{arith}
-use lib.ListN.{length, take, length-set}
-use Rattle.listing.proofs.Copied.{copied_on, copied_all}
+use lib.ListN.{length, take}
 use Rattle.listing.proofs.copy_words.Given as goal
 
 abbrev pub invariant-loop-i : goal.invariant-loop-i

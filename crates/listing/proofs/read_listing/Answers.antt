@@ -1,5 +1,4 @@
 -- `listing::read_listing` meets its contract.
-use borrow.Author.Rules.{rules}
 use mathlib.Core.Path.{refl}
 use Rattle.listing.proofs.Whole.{lent_outer, lent_inner, image_first_lem, oversized, outer_refused, inner_refused, line_too_many, all_read}
 use Rattle.listing.proofs.read_listing.Goals as goal

@@ -1,14 +1,8 @@
-use borrow.Author.Rules.{rules}
-use Prim.Native.Nat.{◌+◌, ◌-◌, ◌≤◌}
-use mathlib.Core.Path.{◌≡◌, refl, sym, ◌∙◌}
+use Prim.Native.Nat.{◌+◌, ◌-◌}
+use mathlib.Core.Path.{refl, sym, ◌∙◌}
 use native.Mathlib.Omega.{arith}
-use lib.Dec.{T}
-use lib.ListN.{length}
 use Rattle.image.specs.Read.{set_of}
-use Rattle.image.specs.Valid.{valid}
-use Rattle.form.specs.Form.{items, section, region_no, saved_line}
-use Rattle.changes.specs.Counts.{Counted}
-use Rattle.form.specs.Steps.{place_at, Stands}
+use Rattle.form.specs.Form.{region_no, saved_line}
 use Rattle.form.proofs.Sections.{stands_on, section_goes, section_ends, items_go, items_end, items_none, heard_same}
 use Rattle.listing.proofs.Sections.{regions_refused}
 use Rattle.changes.proofs.Counts.{counts_none}

@@ -1,8 +1,6 @@
 -- `listing::read_regions` meets its contract.
-use borrow.Author.Rules.{rules}
-use Prim.Native.Nat.{◌+◌, ◌-◌, ◌≤◌}
-use mathlib.Core.Path.{◌≡◌, refl, sym, ◌∙◌}
-use native.Mathlib.Omega.{arith}
+use Prim.Native.Nat.{◌-◌, ◌≤◌}
+use mathlib.Core.Path.{◌≡◌}
 use lib.Dec.{T}
 use lib.ListN.{length}
 use Rattle.image.specs.Read.{set_of}
@@ -10,10 +8,6 @@ use Rattle.image.specs.Valid.{valid}
 use Rattle.form.specs.Form.{items, section, region_no, saved_line}
 use Rattle.changes.specs.Counts.{Counted}
 use Rattle.form.specs.Steps.{place_at, Stands}
-use Rattle.form.proofs.Sections.{stands_on, section_goes, section_ends, items_go, items_end, items_none, heard_same}
-use Rattle.listing.proofs.Sections.{regions_refused}
-use Rattle.changes.proofs.Counts.{counts_none}
-use Rattle.listing.proofs.Copied.{same_long}
 use Rattle.listing.proofs.read_regions.Given as goal
 
 abbrev pub invariant-loop-i : goal.invariant-loop-i

@@ -1,5 +1,4 @@
 -- `listing::read_set` meets its contract.
-use borrow.Author.Rules.{rules}
 use Rattle.listing.proofs.Whole.{set_refused, set_shares, set_opened, set_read}
 use Rattle.listing.proofs.read_set.Goals as goal
 

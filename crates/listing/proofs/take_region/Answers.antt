@@ -1,5 +1,4 @@
 -- `listing::take_region` meets its contract.
-use borrow.Author.Rules.{rules}
 use Rattle.words.proofs.Tests.{not_true, not_false}
 use Rattle.listing.proofs.Regions.{takes_form, takes_saved}
 use Rattle.listing.proofs.take_region.Goals as goal

@@ -1,5 +1,4 @@
 -- `listing_join::main` is safe and ends.
-use borrow.Author.Rules.{rules}
 use Prim.Native.Nat.{◌-◌, ◌≤◌}
 use Rattle.listing_join.proofs.main.Given as goal
 

@@ -1,14 +1,10 @@
 -- `listing_join::print_batches` is safe and ends. The measure: how many pairs are left past the mark; a batch that is not empty leaves fewer.
-use mathlib.Core.Path.{◌≡◌, sym, ◌∙◌}
-use native.Mathlib.Omega.{arith}
+use mathlib.Core.Path.{◌≡◌}
 use lib.ListN.{length}
-use lib.Seq.{length-take-le}
 use Rattle.regions.specs.Calls.{joined}
 use Rattle.regions.specs.Desk.{past}
 use Rattle.regions.specs.declared.Kind.TheVariants.{Ancestor}
 use Rattle.image.specs.Read.{set_of}
-use Rattle.printout.proofs.Texts.{batch_bytes, batch_words_lem, batch_room}
-use Rattle.printout.proofs.Whole.{batch_less, join_ascends}
 use Rattle.listing_join.proofs.print_batches.Given as goal
 
 abbrev pub invariant-loop-b : goal.invariant-loop-b

@@ -1,5 +1,4 @@
 -- `listing_join::print_join` is safe and ends.
-use borrow.Author.Rules.{rules}
 use Prim.Native.Nat.{◌-◌, ◌≤◌}
 use Rattle.listing_join.proofs.print_join.Given as goal
 

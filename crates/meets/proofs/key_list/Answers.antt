@@ -1,7 +1,5 @@
 -- `meets::key_list` meets its contract: the stored pair does not hold p, or the list was walked.
-use borrow.Author.Rules.{rules}
 use mathlib.Core.Path.{sym, ◌∙◌}
-use Rattle.words.proofs.Tests.{not_true, not_false}
 use Rattle.meets.proofs.Loops.{key_beside, key_walked}
 use Rattle.meets.proofs.key_list.Goals as goal
 

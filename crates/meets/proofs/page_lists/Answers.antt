@@ -1,8 +1,7 @@
-use borrow.Author.Rules.{rules}
-use Prim.Native.Nat.{◌-◌, ◌≤◌}
+use Prim.Native.Nat.{◌-◌}
 use mathlib.Core.Path.{◌∙◌}
 use native.Mathlib.Omega.{arith}
-use Rattle.meets.proofs.Loops.{Paging, page_start, page_on, page_last, page_done}
+use Rattle.meets.proofs.Loops.{page_start, page_on, page_last, page_done}
 use Rattle.meets.proofs.page_lists.Goals as goal
 
 pub loop-i-init : goal.loop-i-init

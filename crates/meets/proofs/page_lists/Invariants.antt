@@ -1,9 +1,6 @@
 -- `meets::page_lists` meets its contract. The invariant: what is still to be met, from the next key on, leads to the whole.
-use borrow.Author.Rules.{rules}
 use Prim.Native.Nat.{◌-◌, ◌≤◌}
-use mathlib.Core.Path.{◌∙◌}
-use native.Mathlib.Omega.{arith}
-use Rattle.meets.proofs.Loops.{Paging, page_start, page_on, page_last, page_done}
+use Rattle.meets.proofs.Loops.{Paging}
 use Rattle.meets.proofs.page_lists.Given as goal
 
 abbrev pub invariant-loop-i : goal.invariant-loop-i

@@ -1,10 +1,8 @@
-use borrow.Author.Rules.{rules}
 use mathlib.Core.Path.{sym, ◌∙◌}
-use Rattle.words.proofs.Tests.{not_true, not_false}
-use Prim.Native.Nat.{◌-◌, ◌≤◌}
+use Prim.Native.Nat.{◌-◌}
 use native.Mathlib.Omega.{arith}
 use Rattle.tally.proofs.Tallies.{leads_all}
-use Rattle.meets.proofs.Loops.{Walking, walk_ended, walk_full, walk_stop, walk_on}
+use Rattle.meets.proofs.Loops.{walk_ended, walk_full, walk_stop, walk_on}
 use Rattle.meets.proofs.walk_list.Goals as goal
 
 pub loop-n-init : goal.loop-n-init

@@ -1,11 +1,6 @@
 -- `meets::walk_list` meets its contract. The invariant: what is still to be met, from the next record on, leads to the whole.
-use borrow.Author.Rules.{rules}
-use mathlib.Core.Path.{sym, ◌∙◌}
-use Rattle.words.proofs.Tests.{not_true, not_false}
 use Prim.Native.Nat.{◌-◌, ◌≤◌}
-use native.Mathlib.Omega.{arith}
-use Rattle.tally.proofs.Tallies.{leads_all}
-use Rattle.meets.proofs.Loops.{Walking, walk_ended, walk_full, walk_stop, walk_on}
+use Rattle.meets.proofs.Loops.{Walking}
 use Rattle.meets.proofs.walk_list.Given as goal
 
 abbrev pub invariant-loop-n : goal.invariant-loop-n

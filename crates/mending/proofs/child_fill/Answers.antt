@@ -1,5 +1,4 @@
 -- `child_fill` reads what the child says it has.
-use borrow.Author.Rules.{rules}
 use Rattle.mending.proofs.Seen.{child_read}
 use Rattle.mending.proofs.child_fill.Goals as goal
 

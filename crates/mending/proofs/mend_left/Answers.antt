@@ -1,5 +1,4 @@
 -- `mend_left` joins the thin left child with its right neighbour, or has that lend.
-use borrow.Author.Rules.{rules}
 use native.Mathlib.Omega.{arith}
 use Rattle.mending.proofs.Couples.{pair_small, inner_most, left_few, left_joins, left_joined, right_lends, left_takes, left_took}
 use Rattle.mending.proofs.mend_left.Goals as goal

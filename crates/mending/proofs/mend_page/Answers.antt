@@ -1,5 +1,4 @@
 -- `mend_page` mends the child on x's way with a neighbour, where it holds three.
-use borrow.Author.Rules.{rules}
 use mathlib.Core.Path.{◌∙◌}
 use Rattle.mending.proofs.Turns.{thin_few, thin_index, thin_kept, as_left, one_before, as_right}
 use Rattle.mending.proofs.mend_page.Goals as goal

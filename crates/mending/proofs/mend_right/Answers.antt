@@ -1,5 +1,4 @@
 -- `mend_right` joins the thin right child with its left neighbour, or has that lend.
-use borrow.Author.Rules.{rules}
 use native.Mathlib.Omega.{arith}
 use Rattle.mending.proofs.Couples.{pair_small, right_few, left_four, right_joins, right_joined, left_lends, right_takes, right_took}
 use Rattle.mending.proofs.mend_right.Goals as goal

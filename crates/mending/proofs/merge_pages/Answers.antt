@@ -1,5 +1,4 @@
 -- `merge_pages` merges leaves or inner pages, as the height says.
-use borrow.Author.Rules.{rules}
 use Rattle.mending.proofs.Levels.{ask_leaves, ask_inners, leaves_merged, inners_merged}
 use Rattle.mending.proofs.merge_pages.Goals as goal
 

@@ -1,5 +1,4 @@
 -- `split_page` splits a leaf or an inner page, as the height says.
-use borrow.Author.Rules.{rules}
 use Rattle.mending.proofs.Levels.{ask_leaf, ask_inner, leaf_split, inner_split}
 use Rattle.mending.proofs.split_page.Goals as goal
 

@@ -1,5 +1,4 @@
 -- `store_merged` stores two pages and gives one back.
-use borrow.Author.Rules.{rules}
 use Rattle.merge.proofs.Pairs.{stores_are}
 use Rattle.merge.proofs.store_merged.Goals as goal
 

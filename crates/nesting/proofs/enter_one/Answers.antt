@@ -5,7 +5,6 @@ use mathlib.Core.Path.{◌≡◌, refl, sym, ◌∙◌}
 use mathlib.Core.Bool.{true}
 use native.Mathlib.Omega.{arith}
 use borrow.Author.Tests.{not-true, not-false}
-use borrow.Author.Rules.{rules}
 use Rattle.words.proofs.Says.{true_so}
 use Rattle.regions.specs.Positions.{account, well_formed}
 use Rattle.regions.proofs.Means.{formed_says}
@@ -48,8 +47,8 @@ formed c = sym c.well_formed-2.ensures ∙ c.if-not-well_formed.false
 asked : (c : goal.Joined-t-gt0) → let s = c.args in under s.r (stack_of s.ends.now s.levels.now c.popped-t.result) ≡ true
 asked c =
     elim c.if-t-gt0.branch [
-    | then-t-gt0+else-word-end+else-level-levels w ↦ under_some _ _ _ _ _ _ w.word.ensures refl w.if-t-gt0.true (omega (arith, w.if-word-end.false)) (omega (arith, w.if-level-levels.false))
-    | else-t-gt0 w ↦ under_none _ _ _ _ w.if-t-gt0.false
+      | then-t-gt0+else-word-end+else-level-levels w ↦ under_some _ _ _ _ _ _ w.word.ensures refl w.if-t-gt0.true (omega (arith, w.if-word-end.false)) (omega (arith, w.if-level-levels.false))
+      | else-t-gt0 w ↦ under_none _ _ _ _ w.if-t-gt0.false
     ]
 
 room : (c : goal.Joined-t-gt0) → c.popped-t.result < 255
@@ -71,6 +70,6 @@ pub overflow_add-top : goal.overflow_add-top
 overflow_add-top c = omega (arith, room c)
 
 pub returns : goal.returns
-returns c = let of-account : c.wide-account.result ≡ account c.args.r.start = c.wide-account.ensures ∙ c.account_of.ensures in 
+returns c = let of-account : c.wide-account.result ≡ account c.args.r.start = c.wide-account.ensures ∙ c.account_of.ensures in
     entered _ _ _ _ _ _ _ _ (not-false _ c.if-not-o.false) (formed c) of-account c.word-share.ensures (omega (arith, c.if-share-eq0.false)) (c.popped-t.ensures.1 _)
     c.requires c.popped-t.ensures.0 (asked c)

@@ -1,8 +1,5 @@
-use Prim.Native.Nat.{ℕ, ◌≤◌}
-use mathlib.Core.Path.{◌≡◌, refl, ◌∙◌}
-use mathlib.Core.List.{List}
+use mathlib.Core.Path.{refl, ◌∙◌}
 use native.Mathlib.Omega.{arith}
-use Rattle.nesting.specs.Pass.{pop, stack_of}
 use Rattle.nesting.proofs.Stack.{pop_stop, pop_down, pop_none}
 use Rattle.nesting.proofs.popped.Goals as goal
 

@@ -1,10 +1,8 @@
 -- `nesting::popped` meets its contract: what is closed and what is left of the stack are together what stood on it.
 use Prim.Native.Nat.{ℕ, ◌≤◌}
-use mathlib.Core.Path.{◌≡◌, refl, ◌∙◌}
+use mathlib.Core.Path.{◌≡◌}
 use mathlib.Core.List.{List}
-use native.Mathlib.Omega.{arith}
 use Rattle.nesting.specs.Pass.{pop, stack_of}
-use Rattle.nesting.proofs.Stack.{pop_stop, pop_down, pop_none}
 use Rattle.nesting.proofs.popped.Given as goal
 
 abbrev pub invariant-loop-t : goal.invariant-loop-t

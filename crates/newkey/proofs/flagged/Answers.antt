@@ -1,12 +1,11 @@
-use borrow.Author.Rules.{rules}
-use Prim.Native.Nat.{◌+◌, ◌-◌, ◌≤◌, ◌<◌}
+use Prim.Native.Nat.{◌+◌, ◌-◌, ◌<◌}
 use mathlib.Core.Path.{◌≡◌, sym, ap, ◌∙◌, subst}
 use native.Mathlib.Omega.{arith}
 use Rattle.regions.specs.Positions.{stabs}
 use Rattle.pages.specs.Layout.{fill_of}
 use Rattle.newkey.specs.Moves.{Flagged}
 use Rattle.newkey.proofs.Flagging.{flag_start, flag_pass, flag_set}
-use Prim.Native.Nat.{◌-◌, ◌≤◌}
+use Prim.Native.Nat.{◌-◌}
 use mathlib.Core.Path.{sym, ap, ◌∙◌, subst}
 use Rattle.newkey.proofs.flagged.Goals as goal
 use Rattle.newkey.proofs.flagged.Goals.{then-stabs, else-stabs}
@@ -33,8 +32,8 @@ loop-j-preserved c =
     let h : l.j < fill_of a.leaf = omega (arith, p.1) in (
       omega arith,
       elim c.if-stabs.branch [
-      | then-stabs w ↦ subst (Flagged a.leaf (l.j + 1) a.k) (sym w.ws-is) (flag_set a.leaf a.k l.j h l.ws w.set_flag-s.result l.invariant.1 (e ∙ w.if-stabs.true) w.set_flag-s.ensures)
-      | else-stabs w ↦ subst (Flagged a.leaf (l.j + 1) a.k) (sym w.ws-is) (flag_pass a.leaf a.k l.j h l.ws l.invariant.1 (e ∙ w.if-stabs.false))
+        | then-stabs w ↦ subst (Flagged a.leaf (l.j + 1) a.k) (sym w.ws-is) (flag_set a.leaf a.k l.j h l.ws w.set_flag-s.result l.invariant.1 (e ∙ w.if-stabs.true) w.set_flag-s.ensures)
+        | else-stabs w ↦ subst (Flagged a.leaf (l.j + 1) a.k) (sym w.ws-is) (flag_pass a.leaf a.k l.j h l.ws l.invariant.1 (e ∙ w.if-stabs.false))
       ],
     )
 

@@ -1,9 +1,6 @@
-use borrow.Author.Rules.{rules}
 use Prim.Native.Nat.{◌-◌, ◌≤◌}
 use mathlib.Core.Path.{sym, ◌∙◌, subst}
 use native.Mathlib.Omega.{arith}
-use Rattle.image.specs.Read.{entries_from}
-use Rattle.newkey.specs.Moves.{Gathered}
 use Rattle.newkey.proofs.Gathering.{entries_all, gather_begin, gather_pass, gather_take, gather_free, gather_done}
 use Rattle.newkey.proofs.gather.Goals as goal
 

@@ -1,11 +1,7 @@
 -- `newkey::gather` meets its contract: behind entry j all that k stabs and that is in no list is in k's list.
-use borrow.Author.Rules.{rules}
 use Prim.Native.Nat.{◌-◌, ◌≤◌}
-use mathlib.Core.Path.{sym, ◌∙◌, subst}
-use native.Mathlib.Omega.{arith}
 use Rattle.image.specs.Read.{entries_from}
 use Rattle.newkey.specs.Moves.{Gathered}
-use Rattle.newkey.proofs.Gathering.{entries_all, gather_begin, gather_pass, gather_take, gather_free, gather_done}
 use Rattle.newkey.proofs.gather.Given as goal
 
 abbrev pub invariant-loop-j : goal.invariant-loop-j

@@ -1,5 +1,4 @@
 -- `newkey::is_fresh` meets its contract: the flag's test, then the key's.
-use borrow.Author.Rules.{rules}
 use mathlib.Core.Path.{sym, ◌∙◌}
 use Rattle.words.proofs.Tests.{eq_no}
 use Rattle.image.specs.Read.{entry_at}

@@ -1,5 +1,4 @@
 -- `newpages::inner_single` meets its contract: the words are written out, and the lists come out of them.
-use borrow.Author.Rules.{rules}
 use mathlib.Core.Path.{refl}
 use Rattle.image.specs.Decode.{keys_from, children_from}
 use Rattle.newpages.proofs.inner_single.Goals as goal

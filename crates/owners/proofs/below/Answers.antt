@@ -1,8 +1,6 @@
-use borrow.Author.Rules.{rules}
 use Prim.Native.Nat.{◌-◌}
 use mathlib.Core.Path.{◌∙◌}
-use Rattle.pages.specs.Layout.{page_of}
-use Rattle.owners.proofs.Loops.{Passing, pass_start, pass_found, pass_on, pass_end}
+use Rattle.owners.proofs.Loops.{pass_start, pass_found, pass_on, pass_end}
 use Rattle.owners.proofs.below.Goals as goal
 
 pub loop-i-init : goal.loop-i-init

@@ -1,9 +1,7 @@
 -- `owners::below` counts as `below_in` does. The invariant: what is left, from key i on, gives the whole.
-use borrow.Author.Rules.{rules}
 use Prim.Native.Nat.{◌-◌}
-use mathlib.Core.Path.{◌∙◌}
 use Rattle.pages.specs.Layout.{page_of}
-use Rattle.owners.proofs.Loops.{Passing, pass_start, pass_found, pass_on, pass_end}
+use Rattle.owners.proofs.Loops.{Passing}
 use Rattle.owners.proofs.below.Given as goal
 
 abbrev pub invariant-loop-i : goal.invariant-loop-i

@@ -1,7 +1,7 @@
 use borrow.Author.Rules.{rules}
 use Prim.Native.Nat.{◌-◌}
 use mathlib.Core.Path.{refl}
-use Rattle.owners.proofs.Loops.{Seeking, seek_start, seek_fill, seek_found, seek_on, seek_end}
+use Rattle.owners.proofs.Loops.{seek_start, seek_fill, seek_found, seek_on, seek_end}
 use Rattle.owners.proofs.owner.Goals as goal
 
 pub loop-i-init : goal.loop-i-init

@@ -1,8 +1,6 @@
 -- `owners::owner` finds as `owner_along` does. The invariant: the owner along what is left of the path is the owner along all of it.
-use borrow.Author.Rules.{rules}
 use Prim.Native.Nat.{◌-◌}
-use mathlib.Core.Path.{refl}
-use Rattle.owners.proofs.Loops.{Seeking, seek_start, seek_fill, seek_found, seek_on, seek_end}
+use Rattle.owners.proofs.Loops.{Seeking}
 use Rattle.owners.proofs.owner.Given as goal
 
 abbrev pub invariant-loop-i : goal.invariant-loop-i

@@ -1,5 +1,4 @@
 -- `owners::owns` tests as `owns_at` does.
-use borrow.Author.Rules.{rules}
 use mathlib.Core.Path.{◌∙◌}
 use Rattle.pages.specs.Layout.{page_of}
 use Rattle.owners.proofs.Loops.{owns_key, owns_none}

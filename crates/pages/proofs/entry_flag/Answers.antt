@@ -1,5 +1,4 @@
 -- `pages::entry_flag` meets its contract: the word at the offset by its definition.
-use borrow.Author.Rules.{rules}
 use mathlib.Core.Path.{◌∙◌}
 use Rattle.pages.proofs.entry_flag.Goals as goal
 

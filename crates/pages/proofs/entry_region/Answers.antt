@@ -1,5 +1,4 @@
 -- `pages::entry_region` meets its contract: the region at the offset by its definition.
-use borrow.Author.Rules.{rules}
 use mathlib.Core.Path.{◌∙◌}
 use Rattle.pages.proofs.entry_region.Goals as goal
 

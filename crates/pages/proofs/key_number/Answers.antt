@@ -1,5 +1,4 @@
 -- `pages::key_number` meets its contract: the word at the offset by its definition.
-use borrow.Author.Rules.{rules}
 use mathlib.Core.Path.{◌∙◌}
 use Rattle.pages.proofs.key_number.Goals as goal
 

@@ -1,5 +1,4 @@
 -- `pages::key_words` meets its contract: four words from the offset by its definition on.
-use borrow.Author.Rules.{rules}
 use mathlib.Core.Path.{◌∙◌}
 use Rattle.pages.proofs.key_words.Goals as goal
 

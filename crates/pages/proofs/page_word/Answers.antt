@@ -1,5 +1,4 @@
 -- `pages::page_word` meets its contract: the page's first word and i words more.
-use borrow.Author.Rules.{rules}
 use Rattle.pages.proofs.Placed.{page_word_is}
 use Rattle.pages.proofs.page_word.Goals as goal
 

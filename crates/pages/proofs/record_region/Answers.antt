@@ -1,5 +1,4 @@
 -- `pages::record_region` meets its contract: four words, one for each part of the region.
-use borrow.Author.Rules.{rules}
 use Rattle.pages.proofs.record_region.Goals as goal
 
 pub returns : goal.returns

@@ -1,5 +1,4 @@
 -- `pages::record_word` meets its contract: the record's first word and i words more.
-use borrow.Author.Rules.{rules}
 use Rattle.pages.proofs.Placed.{record_word_is}
 use Rattle.pages.proofs.record_word.Goals as goal
 

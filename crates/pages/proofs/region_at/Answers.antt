@@ -1,5 +1,4 @@
 -- `pages::region_at` meets its contract: four words, one for each part of the region.
-use borrow.Author.Rules.{rules}
 use Rattle.pages.proofs.region_at.Goals as goal
 
 pub returns : goal.returns

@@ -1,9 +1,8 @@
 use borrow.Author.Rules.{rules}
-use Prim.Native.Nat.{◌+◌, ◌-◌, ◌≤◌}
-use mathlib.Core.Path.{◌≡◌, refl, sym, ◌∙◌}
+use Prim.Native.Nat.{◌-◌}
+use mathlib.Core.Path.{refl, sym, ◌∙◌}
 use native.Mathlib.Omega.{arith}
-use lib.ListN.{length, length-set}
-use Rattle.pagewords.specs.Words.{copied_in}
+use lib.ListN.{length-set}
 use Rattle.pagewords.proofs.Runs.{copy_start, copy_turn, copy_done}
 use Rattle.pagewords.proofs.copied.Goals as goal
 

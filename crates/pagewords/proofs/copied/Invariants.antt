@@ -1,11 +1,8 @@
 -- `pagewords::copied` meets its contract: what is left to copy gives the whole.
-use borrow.Author.Rules.{rules}
 use Prim.Native.Nat.{◌+◌, ◌-◌, ◌≤◌}
-use mathlib.Core.Path.{◌≡◌, refl, sym, ◌∙◌}
-use native.Mathlib.Omega.{arith}
-use lib.ListN.{length, length-set}
+use mathlib.Core.Path.{◌≡◌}
+use lib.ListN.{length}
 use Rattle.pagewords.specs.Words.{copied_in}
-use Rattle.pagewords.proofs.Runs.{copy_start, copy_turn, copy_done}
 use Rattle.pagewords.proofs.copied.Given as goal
 
 abbrev pub invariant-loop-i : goal.invariant-loop-i

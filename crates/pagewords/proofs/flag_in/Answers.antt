@@ -1,5 +1,4 @@
 -- `pagewords::flag_in` meets its contract: read at the offset by its definition.
-use borrow.Author.Rules.{rules}
 use Rattle.pagewords.proofs.flag_in.Goals as goal
 
 pub returns : goal.returns

@@ -1,5 +1,4 @@
 -- `pagewords::headed` meets its contract: the first three words.
-use borrow.Author.Rules.{rules}
 use mathlib.Core.Path.{refl}
 use Rattle.pagewords.specs.Words.{headed_by}
 use Rattle.pagewords.proofs.headed.Goals as goal

@@ -1,5 +1,4 @@
 -- `pagewords::put_key` meets its contract: words one behind the other.
-use borrow.Author.Rules.{rules}
 use native.Mathlib.Numerals.{towards_suc}
 use Rattle.pagewords.proofs.put_key.Goals as goal
 

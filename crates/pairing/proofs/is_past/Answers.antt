@@ -1,5 +1,4 @@
 -- `pairing::is_past` meets its contract: each way out is a case of the definition.
-use borrow.Author.Rules.{rules}
 use Rattle.pairing.proofs.Pairs.{past_fresh, past_later, past_earlier, past_same}
 use Rattle.pairing.proofs.is_past.Goals as goal
 

@@ -1,7 +1,5 @@
 -- `pairing::pair_one` meets its contract: passed by, or written and counted.
-use borrow.Author.Rules.{rules}
 use mathlib.Core.Path.{sym, ◌∙◌}
-use Rattle.words.proofs.Tests.{not_true, not_false}
 use Rattle.pairing.proofs.Pairs.{paired_none, paired_one}
 use Rattle.pairing.proofs.pair_one.Goals as goal
 

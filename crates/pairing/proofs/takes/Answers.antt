@@ -1,7 +1,5 @@
 -- `pairing::takes` meets its contract: not past the mark; else the level decides.
-use borrow.Author.Rules.{rules}
 use mathlib.Core.Path.{sym, ◌∙◌}
-use Rattle.words.proofs.Tests.{not_true, not_false}
 use Rattle.pairing.proofs.Pairs.{takes_not, takes_fitting}
 use Rattle.pairing.proofs.takes.Goals as goal
 

@@ -1,5 +1,4 @@
 -- `passes::pass_code` meets its contract: each way out is one of the step's cases.
-use borrow.Author.Rules.{rules}
 use borrow.Author.Tests.{not-true, not-false}
 use mathlib.Core.Path.{◌∙◌}
 use Rattle.passes.proofs.Events.{code_dead, code_no, code_yes}

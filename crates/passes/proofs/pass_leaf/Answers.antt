@@ -1,5 +1,4 @@
 -- `passes::pass_leaf` meets its contract: each way out is one of the step's cases.
-use borrow.Author.Rules.{rules}
 use borrow.Author.Tests.{not-true, not-false}
 use mathlib.Core.Path.{◌∙◌}
 use Rattle.passes.proofs.Events.{leaf_dead, leaf_no, leaf_first, leaf_next}
@@ -17,6 +16,6 @@ returns-then-link-wide c =
 pub returns : goal.returns
 returns c =
     elim c.if-link-ne0.branch [
-    | then-link-ne0+else-link-wide w ↦ leaf_next _ _ _ _ _ (not-false _ c.if-not-s.false) w.wide.ensures c.wide-2.ensures w.if-link-ne0.true w.if-link-wide.false
-    | else-link-ne0 w ↦ leaf_first _ _ _ _ (not-false _ c.if-not-s.false) c.wide-2.ensures w.if-link-ne0.false
+      | then-link-ne0+else-link-wide w ↦ leaf_next _ _ _ _ _ (not-false _ c.if-not-s.false) w.wide.ensures c.wide-2.ensures w.if-link-ne0.true w.if-link-wide.false
+      | else-link-ne0 w ↦ leaf_first _ _ _ _ (not-false _ c.if-not-s.false) c.wide-2.ensures w.if-link-ne0.false
     ]

@@ -1,5 +1,4 @@
 -- `passes::pass_page` meets its contract: each way out is one of the step's cases.
-use borrow.Author.Rules.{rules}
 use borrow.Author.Tests.{not-true, not-false}
 use mathlib.Core.Path.{◌∙◌}
 use Rattle.passes.proofs.Events.{page_dead, page_no, page_none, page_yes}

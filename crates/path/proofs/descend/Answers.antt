@@ -1,7 +1,6 @@
-use borrow.Author.Rules.{rules}
 use native.Mathlib.Omega.{arith}
 use Rattle.path.proofs.Ranks.{rank_small}
-use Rattle.path.proofs.Ways.{Writing, write_start, write_few, write_on, write_end}
+use Rattle.path.proofs.Ways.{write_start, write_few, write_on, write_end}
 use Rattle.path.proofs.descend.Goals as goal
 
 pub loop-left-init : goal.loop-left-init

@@ -1,8 +1,6 @@
-use borrow.Author.Rules.{rules}
 use Prim.Native.Nat.{◌-◌}
 use mathlib.Core.Path.{◌∙◌}
-use Rattle.pages.specs.Layout.{page_of}
-use Rattle.path.proofs.Ranks.{Counting, count_start, count_found, count_on, count_end}
+use Rattle.path.proofs.Ranks.{count_start, count_found, count_on, count_end}
 use Prim.Native.Nat.{◌-◌}
 use mathlib.Core.Path.{◌∙◌}
 use Rattle.path.proofs.rank.Goals as goal

@@ -1,11 +1,8 @@
 -- `path::rank` counts as `rank_in` does. The invariant: the count of what is left, from key i on, is the whole.
-use borrow.Author.Rules.{rules}
 use Prim.Native.Nat.{◌-◌}
-use mathlib.Core.Path.{◌∙◌}
 use Rattle.pages.specs.Layout.{page_of}
-use Rattle.path.proofs.Ranks.{Counting, count_start, count_found, count_on, count_end}
+use Rattle.path.proofs.Ranks.{Counting}
 use Prim.Native.Nat.{◌-◌}
-use mathlib.Core.Path.{◌∙◌}
 use Rattle.path.proofs.rank.Given as goal
 
 abbrev pub invariant-loop-i : goal.invariant-loop-i

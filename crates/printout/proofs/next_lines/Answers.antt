@@ -1,7 +1,6 @@
 -- `printout::next_lines` meets its contract: by what the join's writer leaves in the lent words.
 use native.Mathlib.Omega.{arith}
 use Rattle.printout.proofs.Texts.{joined_few, joined_long, batch_put}
-use borrow.Author.Rules.{rules}
 use Rattle.printout.proofs.next_lines.Goals as goal
 
 pub put_pairs-requires : goal.put_pairs-requires

@@ -1,9 +1,8 @@
 use borrow.Author.Rules.{rules}
-use Prim.Native.Nat.{◌-◌, ◌≤◌}
+use Prim.Native.Nat.{◌-◌}
 use native.Mathlib.Numerals.{add-one}
 use native.Mathlib.Omega.{arith}
 use mathlib.Core.Path.{◌≡◌}
-use Rattle.printout.specs.Printed.{PutsPairs}
 use Rattle.printout.proofs.Texts.{words_long, put_none, put_more, put_long}
 use Rattle.printout.proofs.put_pairs.Goals as goal
 

@@ -1,11 +1,6 @@
 -- `printout::put_pairs` meets its contract. The invariant: the text of the pairs before i stands in the buffer, and `at` is behind it.
-use borrow.Author.Rules.{rules}
 use Prim.Native.Nat.{◌-◌, ◌≤◌}
-use native.Mathlib.Numerals.{add-one}
-use native.Mathlib.Omega.{arith}
-use mathlib.Core.Path.{◌≡◌}
 use Rattle.printout.specs.Printed.{PutsPairs}
-use Rattle.printout.proofs.Texts.{words_long, put_none, put_more, put_long}
 use Rattle.printout.proofs.put_pairs.Given as goal
 
 abbrev pub invariant-loop-i : goal.invariant-loop-i

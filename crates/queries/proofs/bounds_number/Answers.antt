@@ -1,7 +1,5 @@
 -- `queries::bounds_number` meets its contract.
-use borrow.Author.Rules.{rules}
 use mathlib.Core.Path.{sym, ◌∙◌}
-use Rattle.words.proofs.Tests.{not_true, not_false}
 use Rattle.regions.proofs.Numbers.{image_number, own_number}
 use Rattle.queries.proofs.Answers.{bounds_wrong, bounds_foreign, bounds_own}
 use Rattle.queries.proofs.bounds_number.Goals as goal

@@ -1,8 +1,7 @@
 -- `queries::find_ancestors` meets its contract.
-use borrow.Author.Rules.{rules}
 use mathlib.Core.Path.{sym, ◌∙◌}
 use native.Mathlib.Omega.{arith}
-use Rattle.words.proofs.Tests.{T_of, not_true, not_false}
+use Rattle.words.proofs.Tests.{T_of}
 use Rattle.regions.proofs.Numbers.{image_number, own_number}
 use Rattle.queries.proofs.Answers.{point_foreign, ancestors_refused, ancestors_found}
 use Rattle.queries.proofs.find_ancestors.Goals as goal

@@ -1,5 +1,4 @@
 -- `queries::find_descendants` meets its contract.
-use borrow.Author.Rules.{rules}
 use mathlib.Core.Path.{sym, ◌∙◌}
 use Rattle.regions.specs.Calls.{bounds_no}
 use Rattle.image.specs.Valid.{valid}

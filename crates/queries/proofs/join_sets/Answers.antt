@@ -1,8 +1,7 @@
 -- `queries::join_sets` meets its contract.
-use borrow.Author.Rules.{rules}
 use mathlib.Core.Path.{sym, ◌∙◌}
 use native.Mathlib.Omega.{arith}
-use Rattle.words.proofs.Tests.{T_of, not_true, not_false}
+use Rattle.words.proofs.Tests.{T_of}
 use Rattle.image.specs.Valid.{valid}
 use Rattle.regions.specs.Calls.{join_no}
 use Rattle.queries.proofs.Answers.{outer_invalid, either_invalid, join_foreign, join_refused, join_found}

@@ -1,5 +1,4 @@
 -- `raising::enter_key` meets its contract: in front of a key, or behind the last.
-use borrow.Author.Rules.{rules}
 use native.Mathlib.Omega.{arith}
 use Prim.Native.Nat.{◌≤◌, ◌<◌}
 use Rattle.pages.specs.Layout.{fill_of}

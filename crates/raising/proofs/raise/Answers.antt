@@ -1,9 +1,6 @@
-use borrow.Author.Rules.{rules}
-use Prim.Native.Nat.{ℕ, ◌≤◌}
 use mathlib.Core.Path.{refl, ◌∙◌}
 use native.Mathlib.Omega.{arith}
-use Rattle.raising.specs.Moves.{RaiseReady}
-use Rattle.raising.proofs.Raising.{Rising, rise_start, rise_done, x_is, turn_ends, rise_again}
+use Rattle.raising.proofs.Raising.{rise_start, rise_done, x_is, turn_ends, rise_again}
 use Rattle.raising.proofs.raise.Goals as goal
 
 pub key_in-key-requires : goal.key_in-key-requires

@@ -1,10 +1,7 @@
 -- `raising::raise` meets its contract: the keys from j on are done.
-use borrow.Author.Rules.{rules}
 use Prim.Native.Nat.{ℕ, ◌≤◌}
-use mathlib.Core.Path.{refl, ◌∙◌}
-use native.Mathlib.Omega.{arith}
 use Rattle.raising.specs.Moves.{RaiseReady}
-use Rattle.raising.proofs.Raising.{Rising, rise_start, rise_done, x_is, turn_ends, rise_again}
+use Rattle.raising.proofs.Raising.{Rising}
 use Rattle.raising.proofs.raise.Given as goal
 
 abbrev pub invariant-loop-j : goal.invariant-loop-j

@@ -1,9 +1,6 @@
-use borrow.Author.Rules.{rules}
 use mathlib.Core.Path.{◌∙◌}
-use lib.ListN.{length}
-use Rattle.image.specs.Read.{list_places}
 use Rattle.records.proofs.Chains.{step}
-use Rattle.records.proofs.Going.{DropInv, drop_start, drop_less, drop_on, drop_end}
+use Rattle.records.proofs.Going.{drop_start, drop_less, drop_on, drop_end}
 use Rattle.records.proofs.drop_list.Goals as goal
 
 pub loop-q-init : goal.loop-q-init

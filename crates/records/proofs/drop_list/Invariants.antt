@@ -1,10 +1,7 @@
 -- `drop_list` gives all records of a list back. What is left to give back gives the whole; the measure is the length of what is left.
-use borrow.Author.Rules.{rules}
-use mathlib.Core.Path.{◌∙◌}
 use lib.ListN.{length}
 use Rattle.image.specs.Read.{list_places}
-use Rattle.records.proofs.Chains.{step}
-use Rattle.records.proofs.Going.{DropInv, drop_start, drop_less, drop_on, drop_end}
+use Rattle.records.proofs.Going.{DropInv}
 use Rattle.records.proofs.drop_list.Given as goal
 
 abbrev pub invariant-loop-q : goal.invariant-loop-q

@@ -1,5 +1,4 @@
 -- `enter` puts a region into its place by start, into the first free record.
-use borrow.Author.Rules.{rules}
 use Rattle.records.proofs.Marks.{room_first}
 use Rattle.records.proofs.Coming.{entered_law}
 use Rattle.records.proofs.enter.Goals as goal

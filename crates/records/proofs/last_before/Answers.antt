@@ -1,12 +1,9 @@
-use borrow.Author.Rules.{rules}
 use mathlib.Core.Path.{ap}
 use lib.ListN.{length}
 use native.Mathlib.Omega.{arith}
 use Rattle.words.proofs.Tests.{lt_yes, lt_no}
-use Rattle.image.specs.Read.{list_places}
-use Rattle.records.specs.Ways.{before}
 use Rattle.records.proofs.Chains.{step}
-use Rattle.records.proofs.Spots.{SpotInv, spot_start, spot_end, spot_stop, spot_on}
+use Rattle.records.proofs.Spots.{spot_start, spot_end, spot_stop, spot_on}
 use Rattle.records.proofs.last_before.Goals as goal
 
 pub loop-q-init : goal.loop-q-init

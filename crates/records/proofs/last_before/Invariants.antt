@@ -1,13 +1,8 @@
 -- `last_before` walks a list as far as its regions start before a given start. What is left of the walk gives the whole walk's answer; the measure is the length of what is left.
-use borrow.Author.Rules.{rules}
-use mathlib.Core.Path.{ap}
 use lib.ListN.{length}
-use native.Mathlib.Omega.{arith}
-use Rattle.words.proofs.Tests.{lt_yes, lt_no}
 use Rattle.image.specs.Read.{list_places}
 use Rattle.records.specs.Ways.{before}
-use Rattle.records.proofs.Chains.{step}
-use Rattle.records.proofs.Spots.{SpotInv, spot_start, spot_end, spot_stop, spot_on}
+use Rattle.records.proofs.Spots.{SpotInv}
 use Rattle.records.proofs.last_before.Given as goal
 
 abbrev pub invariant-loop-q : goal.invariant-loop-q

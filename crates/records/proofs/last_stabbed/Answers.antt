@@ -1,11 +1,8 @@
-use borrow.Author.Rules.{rules}
 use mathlib.Core.Path.{ap}
 use lib.ListN.{length}
 use native.Mathlib.Omega.{arith}
-use Rattle.image.specs.Read.{list_places}
 use Rattle.records.proofs.Chains.{step}
-use Rattle.records.proofs.Spots.{SpotInv, spot_start, spot_end, spot_stop, spot_on, stabs_early, stabs_late, stabs_yes}
-use Rattle.regions.specs.Positions.{stabs}
+use Rattle.records.proofs.Spots.{spot_start, spot_end, spot_stop, spot_on, stabs_early, stabs_late, stabs_yes}
 use Rattle.records.proofs.last_stabbed.Goals as goal
 
 pub loop-q-init : goal.loop-q-init

@@ -1,5 +1,4 @@
 -- `leave` takes a region out of a key's list and gives its record back.
-use borrow.Author.Rules.{rules}
 use Rattle.records.proofs.Going.{left_law, left_none, left_range}
 use Rattle.records.proofs.leave.Goals as goal
 

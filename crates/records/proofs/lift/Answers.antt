@@ -1,5 +1,4 @@
 -- `lift` moves the beginning of a list that a key stabs in front of another key's list.
-use borrow.Author.Rules.{rules}
 use Rattle.records.proofs.Lifting.{lifted_law}
 use Rattle.records.proofs.lift.Goals as goal
 

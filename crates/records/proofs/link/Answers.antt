@@ -1,5 +1,4 @@
 -- `link` lets a list go on behind a place, and answers its head.
-use borrow.Author.Rules.{rules}
 use Rattle.records.proofs.Small.{link_none, link_some}
 use Rattle.records.proofs.link.Goals as goal
 

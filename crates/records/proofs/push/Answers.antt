@@ -1,5 +1,4 @@
 -- `push` puts a region in front of a key's list, into the first free record.
-use borrow.Author.Rules.{rules}
 use Rattle.records.proofs.Marks.{room_first}
 use Rattle.records.proofs.Coming.{pushed_law}
 use Rattle.records.proofs.push.Goals as goal

@@ -1,5 +1,4 @@
 -- `record_behind` answers what stands behind a place: the head where the place is 0.
-use borrow.Author.Rules.{rules}
 use Rattle.records.proofs.Small.{behind_none, behind_some}
 use Rattle.records.proofs.record_behind.Goals as goal
 

@@ -1,5 +1,4 @@
 -- `renewed` answers a key with the stored pair of its list.
-use borrow.Author.Rules.{rules}
 use Rattle.records.proofs.Small.{renewed_none, renewed_some}
 use Rattle.records.proofs.renewed.Goals as goal
 

@@ -1,7 +1,5 @@
 -- `refuse::delete_number` meets its contract.
-use borrow.Author.Rules.{rules}
 use mathlib.Core.Path.{sym, ◌∙◌}
-use Rattle.words.proofs.Tests.{not_true, not_false}
 use Rattle.image.specs.Read.{set_of}
 use Rattle.refuse.proofs.Numbers.{delete_foreign, delete_absent, delete_goes}
 use Rattle.refuse.proofs.delete_number.Goals as goal

@@ -1,5 +1,4 @@
 -- `refuse::is_full` meets its contract.
-use borrow.Author.Rules.{rules}
 use Rattle.refuse.proofs.Numbers.{full_is}
 use Rattle.refuse.proofs.is_full.Goals as goal
 

@@ -1,5 +1,4 @@
 -- `refuse::is_held` meets its contract.
-use borrow.Author.Rules.{rules}
 use mathlib.Core.Path.{ap, ◌∙◌}
 use Rattle.words.specs.Lists.{some}
 use Rattle.refuse.proofs.is_held.Goals as goal

@@ -1,7 +1,5 @@
 -- `refuse::save_number` meets its contract.
-use borrow.Author.Rules.{rules}
 use mathlib.Core.Path.{sym, ◌∙◌}
-use Rattle.words.proofs.Tests.{not_true, not_false}
 use Rattle.image.specs.Read.{set_of}
 use Rattle.refuse.proofs.Numbers.{save_region, save_foreign, save_held, save_cross, save_level, save_share, save_goes, formed_order, own_low}
 use Rattle.refuse.proofs.save_number.Goals as goal

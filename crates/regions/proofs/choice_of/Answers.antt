@@ -1,5 +1,4 @@
 -- `regions::choice_of` meets its contract, kind by kind.
-use borrow.Author.Rules.{rules}
 use mathlib.Core.Path.{sym, ap}
 use Rattle.regions.specs.Calls.{choice_of}
 use Rattle.regions.proofs.choice_of.Goals as goal

@@ -1,5 +1,4 @@
 -- `regions::crosses` meets its contract: each of the four ways to be nested rightly ends it; where none is so, the regions cross.
-use borrow.Author.Rules.{rules}
 use mathlib.Core.Path.{sym, ap, ◌∙◌}
 use mathlib.Core.Bool.{not}
 use Rattle.regions.proofs.Small.{crosses_before, crosses_behind, crosses_around, crosses_is}

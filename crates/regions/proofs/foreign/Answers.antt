@@ -1,5 +1,4 @@
 -- `regions::foreign` meets its contract: an account above 15 has no position; else the position's account decides.
-use borrow.Author.Rules.{rules}
 use mathlib.Core.Path.{ap, ◌∙◌}
 use mathlib.Core.Bool.{not}
 use lib.Dec.{eqb}

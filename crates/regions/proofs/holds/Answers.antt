@@ -1,5 +1,4 @@
 -- `regions::holds` meets its contract: its two ends span the position, or do not.
-use borrow.Author.Rules.{rules}
 use Rattle.regions.specs.Positions.{holds}
 use Rattle.regions.proofs.holds.Goals as goal
 

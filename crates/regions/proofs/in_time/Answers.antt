@@ -1,5 +1,4 @@
 -- `regions::in_time` meets its contract: what starts before the bound comes in time.
-use borrow.Author.Rules.{rules}
 use mathlib.Core.Path.{ap₂}
 use lib.Dec.{ltb}
 use Rattle.regions.proofs.in_time.Goals as goal

@@ -1,5 +1,4 @@
 -- `regions::is_above` meets its contract: nothing is above level 0; else one less on one side is one more on the other.
-use borrow.Author.Rules.{rules}
 use native.Mathlib.Omega.{arith}
 use Rattle.regions.proofs.Small.{above_no, above_is}
 use Rattle.regions.proofs.is_above.Goals as goal

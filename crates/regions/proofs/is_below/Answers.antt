@@ -1,5 +1,4 @@
 -- `regions::is_below` meets its contract: level 0 is below nothing; else one less on one side is one more on the other.
-use borrow.Author.Rules.{rules}
 use native.Mathlib.Omega.{arith}
 use Rattle.regions.proofs.Small.{below_no, below_is}
 use Rattle.regions.proofs.is_below.Goals as goal

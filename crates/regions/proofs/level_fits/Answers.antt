@@ -1,5 +1,4 @@
 -- `regions::level_fits` meets its contract, kind by kind.
-use borrow.Author.Rules.{rules}
 use mathlib.Core.Path.{◌∙◌}
 use Rattle.regions.specs.Calls.{level_fits}
 use Rattle.regions.proofs.level_fits.Goals as goal

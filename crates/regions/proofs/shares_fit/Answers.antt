@@ -1,8 +1,7 @@
 use borrow.Author.Rules.{rules}
-use Prim.Native.Nat.{◌+◌, ◌-◌, ◌≤◌}
-use mathlib.Core.Path.{◌≡◌, refl, sym}
+use Prim.Native.Nat.{◌-◌}
+use mathlib.Core.Path.{refl, sym}
 use native.Mathlib.Omega.{arith}
-use lib.ListN.{drop}
 use Rattle.words.specs.Lists.{sum}
 use Rattle.words.proofs.Tests.{le_yes, le_no}
 use Rattle.regions.proofs.Shares.{sum_more, sum_none}

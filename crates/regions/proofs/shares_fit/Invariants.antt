@@ -1,12 +1,8 @@
 -- `regions::shares_fit` meets its contract: what is left of the room and of the shares keeps their difference.
-use borrow.Author.Rules.{rules}
 use Prim.Native.Nat.{◌+◌, ◌-◌, ◌≤◌}
-use mathlib.Core.Path.{◌≡◌, refl, sym}
-use native.Mathlib.Omega.{arith}
+use mathlib.Core.Path.{◌≡◌}
 use lib.ListN.{drop}
 use Rattle.words.specs.Lists.{sum}
-use Rattle.words.proofs.Tests.{le_yes, le_no}
-use Rattle.regions.proofs.Shares.{sum_more, sum_none}
 use Rattle.regions.proofs.shares_fit.Given as goal
 
 abbrev pub invariant-loop-a : goal.invariant-loop-a

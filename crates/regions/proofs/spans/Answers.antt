@@ -1,5 +1,4 @@
 -- `regions::spans` meets its contract: an end that is not behind the position settles it; else the start decides.
-use borrow.Author.Rules.{rules}
 use mathlib.Core.Path.{◌∙◌}
 use Rattle.regions.proofs.Small.{spans_ended, spans_open}
 use Rattle.regions.proofs.spans.Goals as goal

@@ -1,5 +1,4 @@
 -- `regions::too_late` meets its contract, by the choice.
-use borrow.Author.Rules.{rules}
 use Rattle.regions.proofs.Small.{late_strict, late_self}
 use Rattle.regions.proofs.too_late.Goals as goal
 

@@ -1,5 +1,4 @@
 -- `regions::well_bound` meets its contract: bounds in the wrong order are not well formed, whatever their documents are; else the documents decide.
-use borrow.Author.Rules.{rules}
 use mathlib.Core.Path.{ap₂, ◌∙◌}
 use lib.Dec.{eqb}
 use Rattle.regions.proofs.Small.{bound_no, bound_is}

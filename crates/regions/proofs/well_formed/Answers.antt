@@ -1,8 +1,6 @@
 -- `regions::well_formed` meets its contract: the bounds come first, then the level's two ends.
-use borrow.Author.Rules.{rules}
 use mathlib.Core.Path.{sym, ◌∙◌}
 use native.Mathlib.Omega.{arith}
-use Rattle.words.proofs.Tests.{not_true, not_false}
 use Rattle.regions.proofs.Small.{formed_no, formed_low, formed_is}
 use Rattle.regions.proofs.well_formed.Goals as goal
 

@@ -1,5 +1,4 @@
 -- `mend` is the mending for the height at hand.
-use borrow.Author.Rules.{rules}
 use native.Mathlib.Omega.{arith}
 use Rattle.remove.proofs.Thinning.{ask_at, done_at, leads_at}
 use Rattle.remove.proofs.mend.Goals as goal

@@ -1,5 +1,4 @@
 -- `mend_high` mends the next page of the path, then the page itself.
-use borrow.Author.Rules.{rules}
 use native.Mathlib.Omega.{arith}
 use mathlib.Core.Path.{refl}
 use Rattle.remove.proofs.Thinning.{child_ask, page_ask, page_done}

@@ -1,5 +1,4 @@
 -- `mend_low` is one turn at a page above leaves.
-use borrow.Author.Rules.{rules}
 use Rattle.remove.proofs.Thinning.{low_ask, low_done}
 use Rattle.remove.proofs.mend_low.Goals as goal
 

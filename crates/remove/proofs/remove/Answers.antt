@@ -1,5 +1,4 @@
 -- `remove` takes the region out, mends the fills, and takes away a root with no key.
-use borrow.Author.Rules.{rules}
 use native.Mathlib.Omega.{arith}
 use Rattle.path.proofs.Ways.{descend_asks}
 use Rattle.remove.proofs.Removing.{take_asks, high_enough, leaf_done, mend_asks, kept_done, shrink_asks, shrunk_done}

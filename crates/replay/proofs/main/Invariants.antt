@@ -1,5 +1,4 @@
 -- `replay::main` is safe and ends.
-use borrow.Author.Rules.{rules}
 use Prim.Native.Nat.{◌-◌, ◌≤◌}
 use Rattle.replay.proofs.main.Given as goal
 

@@ -1,5 +1,4 @@
 -- `roots::shrink_root` lets the root's only child be the root.
-use borrow.Author.Rules.{rules}
 use Rattle.roots.proofs.Roots.{shrink_done}
 use Rattle.roots.proofs.shrink_root.Goals as goal
 

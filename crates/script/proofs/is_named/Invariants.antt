@@ -1,5 +1,4 @@
 -- `script::is_named` is safe and ends.
-use borrow.Author.Rules.{rules}
 use Prim.Native.Nat.{◌-◌, ◌≤◌}
 use Rattle.script.proofs.is_named.Given as goal
 

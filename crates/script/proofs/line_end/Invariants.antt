@@ -1,5 +1,4 @@
 -- `script::line_end` is safe and ends.
-use borrow.Author.Rules.{rules}
 use Prim.Native.Nat.{◌-◌, ◌≤◌}
 use lib.ListN.{length}
 use Rattle.script.proofs.line_end.Given as goal

@@ -1,5 +1,4 @@
 -- `script::name_length` is safe and ends.
-use borrow.Author.Rules.{rules}
 use Prim.Native.Nat.{◌-◌, ◌≤◌}
 use lib.ListN.{length}
 use Rattle.script.proofs.name_length.Given as goal

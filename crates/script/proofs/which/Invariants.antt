@@ -1,5 +1,4 @@
 -- `script::which` is safe and ends.
-use borrow.Author.Rules.{rules}
 use Prim.Native.Nat.{◌-◌, ◌≤◌}
 use Rattle.script.proofs.which.Given as goal
 

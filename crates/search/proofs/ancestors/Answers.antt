@@ -1,5 +1,4 @@
 -- `search::ancestors` meets its contract: the search along the path that was gone down.
-use borrow.Author.Rules.{rules}
 use Rattle.path.proofs.Ways.{descend_asks}
 use Rattle.search.proofs.ancestors.Goals as goal
 

@@ -1,5 +1,4 @@
 -- `search::ancestors_along` meets its contract: the task takes all.
-use borrow.Author.Rules.{rules}
 use Rattle.search.proofs.Tops.{all_found}
 use Rattle.search.proofs.ancestors_along.Goals as goal
 

@@ -1,5 +1,4 @@
 -- `search::parent` meets its contract: level 0 has none; else the last one taken is the only one.
-use borrow.Author.Rules.{rules}
 use mathlib.Core.Path.{ap, sym, ◌∙◌}
 use Rattle.image.specs.Read.{set_of}
 use Rattle.tally.specs.Tallies.{found_list}

@@ -1,5 +1,4 @@
 -- `search::search` meets its contract: what is found along the path are the ancestors.
-use borrow.Author.Rules.{rules}
 use native.Mathlib.Omega.{arith}
 use Rattle.tally.proofs.Tallies.{tallied_same}
 use Rattle.search.proofs.Right.{found_right}

@@ -1,13 +1,11 @@
-use borrow.Author.Rules.{rules}
-use Prim.Native.Nat.{ℕ, ◌-◌, ◌≤◌}
+use Prim.Native.Nat.{◌-◌, ◌≤◌}
 use mathlib.Core.Path.{◌≡◌}
-use mathlib.Core.List.{List}
 use native.Mathlib.Omega.{arith}
 use lib.ListN.{get_or}
 use Rattle.pages.specs.Layout.{root_of, page_of, fill_of}
 use Rattle.path.specs.Path.{down_to}
 use Rattle.image.specs.Read.{depth_of}
-use Rattle.search.proofs.Down.{way_at, way_few, Going, path_start, path_on, path_end}
+use Rattle.search.proofs.Down.{way_at, way_few, path_start, path_on, path_end}
 use Rattle.search.proofs.search_path.Goals as goal
 
 pub loop-i-init : goal.loop-i-init

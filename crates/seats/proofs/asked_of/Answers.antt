@@ -5,7 +5,6 @@ use Rattle.words.specs.Lists.{first_no}
 use Rattle.regions.specs.Desk.{state_open, state_limit}
 use Rattle.seats.specs.Steps.{asked_no}
 use Rattle.regions.specs.declared.State.{State}
-use borrow.Author.Rules.{rules}
 use Rattle.seats.proofs.asked_of.Goals as goal
 
 pub returns-then-limit-count : goal.returns-then-limit-count

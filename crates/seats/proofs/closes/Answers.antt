@@ -3,7 +3,6 @@ use mathlib.Core.Path.{refl, sym, ap}
 use Rattle.words.specs.Lists.{first_no}
 use Rattle.regions.specs.Desk.{state_open}
 use Rattle.seats.specs.Steps.{closes_no}
-use borrow.Author.Rules.{rules}
 use Rattle.seats.proofs.closes.Goals as goal
 
 pub returns-in-Closed : goal.returns-in-Closed

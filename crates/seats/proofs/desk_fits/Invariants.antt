@@ -1,12 +1,7 @@
 -- `seats::desk_fits` meets its contract. The invariant: what has been found of the seats before i.
-use Prim.Native.Nat.{ℕ, ◌-◌, ◌≤◌}
-use mathlib.Core.Path.{◌≡◌, sym, ap, ◌∙◌}
-use mathlib.Core.Bool.{Bool, ◌&&◌}
-use lib.ListN.{length}
-use borrow.Author.Tests.{eq-eqb}
-use Rattle.regions.specs.Desk.{seat_at, seat_fits}
-use Rattle.seats.proofs.Fitting.{fits_at, fits_next, fits_all}
-use borrow.Author.Rules.{rules}
+use Prim.Native.Nat.{◌-◌, ◌≤◌}
+use mathlib.Core.Path.{◌≡◌}
+use Rattle.seats.proofs.Fitting.{fits_at}
 use Rattle.seats.proofs.desk_fits.Given as goal
 
 abbrev pub invariant-loop-i : goal.invariant-loop-i

@@ -1,7 +1,6 @@
 -- `seats::mark_behind` meets its contract: by the test.
 use borrow.Author.Tests.{eq-eqb, ne_eqb}
 use Rattle.seats.specs.Steps.{mark_read}
-use borrow.Author.Rules.{rules}
 use Rattle.seats.proofs.mark_behind.Goals as goal
 
 pub returns-then-n-eq0 : goal.returns-then-n-eq0

@@ -2,7 +2,6 @@
 use mathlib.Core.Path.{sym, ◌∙◌, ap}
 use borrow.Author.Tests.{eq-eqb, ne_eqb}
 use Rattle.regions.specs.Desk.{mark_fits}
-use borrow.Author.Rules.{rules}
 use Rattle.seats.proofs.mark_fits.Goals as goal
 
 pub returns-then-account_of-account : goal.returns-then-account_of-account

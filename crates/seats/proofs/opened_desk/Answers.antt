@@ -1,7 +1,6 @@
 -- `seats::opened_desk` meets its contract: each of the eight is the closed seat.
 use mathlib.Core.Path.{ap}
 use lib.ListN.{replicate}
-use borrow.Author.Rules.{rules}
 use Rattle.seats.proofs.opened_desk.Goals as goal
 
 pub returns : goal.returns

@@ -7,7 +7,6 @@ use Rattle.regions.specs.declared.Mark.TheVariants.{Fresh}
 use Prim.Native.Nat.{ℕ}
 use Rattle.regions.specs.declared.State.{State}
 use Rattle.seats.specs.Steps.{opens_no}
-use borrow.Author.Rules.{rules}
 use Rattle.seats.proofs.opens.Goals as goal
 
 pub returns-then-account-gt-LAST_ACCOUNT : goal.returns-then-account-gt-LAST_ACCOUNT

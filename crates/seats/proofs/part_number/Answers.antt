@@ -1,9 +1,8 @@
 -- `seats::part_number` meets its contract: by the tests, and by what is asked of the seat.
 use mathlib.Core.Path.{sym, ◌∙◌}
-use borrow.Author.Tests.{not-true, not-false, eq-eqb, ne_eqb, lt-ltb, le-ltb}
+use borrow.Author.Tests.{eq-eqb, ne_eqb, lt-ltb, le-ltb}
 use Rattle.words.specs.Lists.{first_no}
 use Rattle.seats.specs.Steps.{parts_no}
-use borrow.Author.Rules.{rules}
 use Rattle.seats.proofs.part_number.Goals as goal
 
 pub returns-then-not-desk_fits : goal.returns-then-not-desk_fits

@@ -1,5 +1,5 @@
 -- `seats::round_number` meets its contract: by the tests that led to each answer.
-use borrow.Author.Tests.{not-true, not-false, eq-eqb, ne_eqb}
+use borrow.Author.Tests.{eq-eqb, ne_eqb}
 use Rattle.words.specs.Lists.{first_no}
 use Rattle.seats.proofs.round_number.Goals as goal
 

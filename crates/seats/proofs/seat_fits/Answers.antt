@@ -2,7 +2,6 @@
 use mathlib.Core.Path.{sym, ◌∙◌, ap}
 use borrow.Author.Tests.{lt-leb, le-leb}
 use Rattle.regions.specs.Desk.{state_fits}
-use borrow.Author.Rules.{rules}
 use Rattle.seats.proofs.seat_fits.Goals as goal
 
 pub returns-then-o-gt-LAST_ACCOUNT : goal.returns-then-o-gt-LAST_ACCOUNT

@@ -1,5 +1,4 @@
 -- `seats::still_fits` meets its contract: by the flag.
-use borrow.Author.Rules.{rules}
 use Rattle.seats.proofs.still_fits.Goals as goal
 
 pub returns-then-ok : goal.returns-then-ok

@@ -1,5 +1,4 @@
 -- `skips::first_position` meets its contract, by the mark and by which comes later.
-use borrow.Author.Rules.{rules}
 use Rattle.skips.proofs.Ways.{position_fresh, position_lowest, position_marked}
 use Rattle.skips.proofs.first_position.Goals as goal
 

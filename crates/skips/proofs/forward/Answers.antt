@@ -1,11 +1,6 @@
-use borrow.Author.Rules.{rules}
 use mathlib.Core.Path.{sym, ◌∙◌}
-use lib.ListN.{length}
-use Rattle.words.proofs.Tests.{not_true, not_false}
 use Rattle.image.proofs.Sound.{set_rises}
-use Rattle.leaves.specs.Cursors.{left}
 use Rattle.leaves.proofs.Faces.{faces_few, faces_less}
-use Rattle.skips.specs.Joins.{Before, first_held}
 use Rattle.skips.proofs.Ways.{not_held, may_hold, forward_end, forward_there, forward_on}
 use Rattle.skips.proofs.forward.Goals as goal
 

@@ -1,13 +1,7 @@
 -- `skips::forward` meets its contract. The invariant: the cursor is at a place that is not behind the first that may be held. The measure: how many entries are left.
-use borrow.Author.Rules.{rules}
-use mathlib.Core.Path.{sym, ◌∙◌}
 use lib.ListN.{length}
-use Rattle.words.proofs.Tests.{not_true, not_false}
-use Rattle.image.proofs.Sound.{set_rises}
 use Rattle.leaves.specs.Cursors.{left}
-use Rattle.leaves.proofs.Faces.{faces_few, faces_less}
 use Rattle.skips.specs.Joins.{Before, first_held}
-use Rattle.skips.proofs.Ways.{not_held, may_hold, forward_end, forward_there, forward_on}
 use Rattle.skips.proofs.forward.Given as goal
 
 abbrev pub invariant-loop-choice : goal.invariant-loop-choice

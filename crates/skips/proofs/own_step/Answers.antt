@@ -1,5 +1,4 @@
 -- `skips::own_step` meets its contract: the end; a region of another account; one of this.
-use borrow.Author.Rules.{rules}
 use mathlib.Core.Path.{sym, ◌∙◌}
 use Rattle.skips.proofs.Ways.{own_end, own_other, own_one}
 use Rattle.skips.proofs.own_step.Goals as goal

@@ -1,5 +1,4 @@
 -- `skips::seek_held` meets its contract, by the choice.
-use borrow.Author.Rules.{rules}
 use Rattle.skips.proofs.Ways.{sought, sought_self}
 use Rattle.skips.proofs.seek_held.Goals as goal
 

@@ -1,5 +1,4 @@
 -- `split::cut_key` meets its contract: the key between the two starts that it reads.
-use borrow.Author.Rules.{rules}
 use mathlib.Core.Path.{◌∙◌}
 use Rattle.split.proofs.cut_key.Goals as goal
 

@@ -1,5 +1,4 @@
 -- `split::inner` meets its contract: the laws on what it hands to its callees, and on what is there at its end.
-use borrow.Author.Rules.{rules}
 use native.Mathlib.Omega.{arith}
 use Prim.Native.Nat.{suc}
 use mathlib.Core.Path.{◌∙◌}

@@ -1,6 +1,5 @@
 -- `split::leaf` meets its contract: the laws on what it hands to its callees, and on what is there at its end.
 -- Of the key, only the end asks that it is the one of rule 2; all else asks that it separates the two parts.
-use borrow.Author.Rules.{rules}
 use native.Mathlib.Omega.{arith}
 use mathlib.Core.Path.{◌∙◌}
 use Rattle.split.proofs.Seen.{q_range, i_fits, free_page_lem}

@@ -1,5 +1,4 @@
 -- `stack::none_past` meets its contract: there is none, or the top tells.
-use borrow.Author.Rules.{rules}
 use mathlib.Core.Path.{sym, ◌∙◌}
 use Rattle.words.proofs.Tests.{not_true}
 use Rattle.stack.proofs.Pairs.{past_empty, past_none}

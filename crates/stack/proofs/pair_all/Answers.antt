@@ -1,8 +1,6 @@
-use Prim.Native.Nat.{◌≤◌, ◌-◌}
+use Prim.Native.Nat.{◌-◌}
 use mathlib.Core.Bool.{true}
 use native.Mathlib.Omega.{arith}
-use Rattle.stack.specs.Stacks.{stacked}
-use Rattle.pairing.specs.Pairs.{PairedUp}
 use Rattle.stack.proofs.Stacked.{stacked_long, read_holds}
 use Rattle.stack.proofs.Pairs.{paired_long, paired_start, paired_more, paired_done}
 use Rattle.stack.proofs.pair_all.Goals as goal

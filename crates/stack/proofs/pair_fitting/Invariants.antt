@@ -1,11 +1,8 @@
 -- `stack::pair_fitting` meets its contract. The invariant: the pairs with the first i are written and counted, all of them as long as the loop goes on. The measure: how many are left.
 use Prim.Native.Nat.{◌≤◌, ◌-◌}
 use mathlib.Core.Bool.{true}
-use native.Mathlib.Omega.{arith}
 use Rattle.stack.specs.Stacks.{stacked}
 use Rattle.pairing.specs.Pairs.{PairedUp}
-use Rattle.stack.proofs.Stacked.{stacked_long, read_holds}
-use Rattle.stack.proofs.Pairs.{paired_long, paired_start, paired_more, paired_done, paired_full}
 use Rattle.stack.proofs.pair_fitting.Given as goal
 
 abbrev pub invariant-loop-i : goal.invariant-loop-i

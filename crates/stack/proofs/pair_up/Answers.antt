@@ -1,5 +1,4 @@
 -- `stack::pair_up` meets its contract: none is past the mark; else all are counted, or those that fit.
-use borrow.Author.Rules.{rules}
 use Rattle.stack.proofs.Pairs.{paired_nothing}
 use Rattle.stack.proofs.pair_up.Goals as goal
 

@@ -1,8 +1,5 @@
 use native.Mathlib.Omega.{arith}
-use Prim.Native.Nat.{◌≤◌}
-use mathlib.Core.Path.{◌≡◌, refl}
-use Rattle.words.specs.Lists.{filter}
-use Rattle.stack.specs.Stacks.{ends_behind, Falling, stacked}
+use mathlib.Core.Path.{refl}
 use Rattle.stack.proofs.Stacked.{popped_all, popped_one, popped_stop, fall_less}
 use Rattle.stack.proofs.pop_ended.Goals as goal
 

@@ -1,10 +1,8 @@
 -- `stack::pop_ended` meets its contract. The invariant: what ends behind p of the m that are left is what does of all. The measure: how many are left.
-use native.Mathlib.Omega.{arith}
 use Prim.Native.Nat.{◌≤◌}
-use mathlib.Core.Path.{◌≡◌, refl}
+use mathlib.Core.Path.{◌≡◌}
 use Rattle.words.specs.Lists.{filter}
 use Rattle.stack.specs.Stacks.{ends_behind, Falling, stacked}
-use Rattle.stack.proofs.Stacked.{popped_all, popped_one, popped_stop, fall_less}
 use Rattle.stack.proofs.pop_ended.Given as goal
 
 abbrev pub invariant-loop-m : goal.invariant-loop-m

@@ -1,5 +1,4 @@
 -- `stack::push` meets its contract: it has ended, or it is written on top.
-use borrow.Author.Rules.{rules}
 use native.Mathlib.Omega.{arith}
 use Rattle.stack.proofs.Stacked.{pushed_not, pushed_one}
 use Rattle.stack.proofs.push.Goals as goal

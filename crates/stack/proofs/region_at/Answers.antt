@@ -1,5 +1,4 @@
 -- `stack::region_at` meets its contract: four words.
-use borrow.Author.Rules.{rules}
 use mathlib.Core.Path.{refl}
 use Rattle.stack.proofs.Stacked.{region_read}
 use Rattle.stack.proofs.region_at.Goals as goal

@@ -1,8 +1,8 @@
 use borrow.Author.Rules.{rules}
-use Prim.Native.Nat.{◌-◌, ◌≤◌}
+use Prim.Native.Nat.{◌-◌}
 use native.Mathlib.Omega.{arith}
 use Rattle.pages.specs.Layout.{page_used}
-use Rattle.store.proofs.Turns.{page_free, page_taken, AllUsed, used_more, found_free, found_none}
+use Rattle.store.proofs.Turns.{page_free, page_taken, used_more, found_free, found_none}
 use Rattle.store.proofs.first_free_page.Goals as goal
 
 pub loop-p-init : goal.loop-p-init

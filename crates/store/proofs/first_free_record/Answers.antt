@@ -1,8 +1,8 @@
 use borrow.Author.Rules.{rules}
-use Prim.Native.Nat.{◌-◌, ◌≤◌}
+use Prim.Native.Nat.{◌-◌}
 use native.Mathlib.Omega.{arith}
 use Rattle.pages.specs.Layout.{record_used}
-use Rattle.store.proofs.Turns.{record_free, record_taken, AllUsed, used_more, found_free, found_none}
+use Rattle.store.proofs.Turns.{record_free, record_taken, used_more, found_free, found_none}
 use Rattle.store.proofs.first_free_record.Goals as goal
 
 pub loop-q-init : goal.loop-q-init

@@ -1,9 +1,7 @@
 -- `store::first_free_record` meets its contract: all places before q are in use.
-use borrow.Author.Rules.{rules}
 use Prim.Native.Nat.{◌-◌, ◌≤◌}
-use native.Mathlib.Omega.{arith}
 use Rattle.pages.specs.Layout.{record_used}
-use Rattle.store.proofs.Turns.{record_free, record_taken, AllUsed, used_more, found_free, found_none}
+use Rattle.store.proofs.Turns.{AllUsed}
 use Rattle.store.proofs.first_free_record.Given as goal
 
 abbrev pub invariant-loop-q : goal.invariant-loop-q

@@ -1,5 +1,4 @@
 -- `store::free_page` meets its contract: one word is written, at the place by its definition.
-use borrow.Author.Rules.{rules}
 use Rattle.store.specs.Store.{free_page}
 use Rattle.store.proofs.free_page.Goals as goal
 

@@ -1,5 +1,4 @@
 -- `store::free_record` meets its contract: one word is written, at the place by its definition.
-use borrow.Author.Rules.{rules}
 use Rattle.store.specs.Store.{free_record}
 use Rattle.store.proofs.free_record.Goals as goal
 

@@ -1,10 +1,7 @@
 -- `store::load_page` meets its contract: the words before i are those of the page.
-use borrow.Author.Rules.{rules}
 use Prim.Native.Nat.{◌-◌, ◌≤◌}
-use mathlib.Core.Path.{◌≡◌, refl}
-use native.Mathlib.Omega.{arith}
-use lib.ListN.{length, take, drop, length-set}
-use Rattle.store.proofs.Turns.{load_turn, load_done}
+use mathlib.Core.Path.{◌≡◌}
+use lib.ListN.{length, take, drop}
 use Rattle.store.proofs.load_page.Given as goal
 
 abbrev pub invariant-loop-i : goal.invariant-loop-i

@@ -1,10 +1,9 @@
 use borrow.Author.Rules.{rules}
-use Prim.Native.Nat.{ℕ, ◌+◌, ◌-◌, ◌<◌}
-use mathlib.Core.Path.{◌≡◌, refl, sym, ◌∙◌}
+use Prim.Native.Nat.{◌-◌}
+use mathlib.Core.Path.{refl, sym, ◌∙◌}
 use native.Mathlib.Omega.{arith}
-use lib.ListN.{length, get_or, take, drop, length-set}
-use lib.Seq.{sets, get_or-set_other}
-use Rattle.pagewords.specs.Words.{copied_in}
+use lib.ListN.{length-set}
+use lib.Seq.{get_or-set_other}
 use Rattle.store.proofs.Turns.{move_start, move_turn, move_done}
 use Rattle.store.proofs.move_up.Goals as goal
 

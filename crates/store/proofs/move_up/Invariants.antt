@@ -1,12 +1,9 @@
 -- `store::move_up` meets its contract: what is left to move gives the whole, and the words that are still to be read stand as they did.
-use borrow.Author.Rules.{rules}
 use Prim.Native.Nat.{ℕ, ◌+◌, ◌-◌, ◌<◌}
-use mathlib.Core.Path.{◌≡◌, refl, sym, ◌∙◌}
-use native.Mathlib.Omega.{arith}
-use lib.ListN.{length, get_or, take, drop, length-set}
-use lib.Seq.{sets, get_or-set_other}
+use mathlib.Core.Path.{◌≡◌}
+use lib.ListN.{length, get_or, take, drop}
+use lib.Seq.{sets}
 use Rattle.pagewords.specs.Words.{copied_in}
-use Rattle.store.proofs.Turns.{move_start, move_turn, move_done}
 use Rattle.store.proofs.move_up.Given as goal
 
 abbrev pub invariant-loop-moved : goal.invariant-loop-moved

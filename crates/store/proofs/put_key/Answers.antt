@@ -3,7 +3,6 @@ use native.Mathlib.Omega.{arith}
 use native.Mathlib.Numerals.{towards_suc}
 use lib.ListN.{length-set}
 use Rattle.store.specs.Store.{put_key_at}
-use borrow.Author.Rules.{rules}
 use Rattle.store.proofs.put_key.Goals as goal
 
 pub bounds-img-b-2 : goal.bounds-img-b-2

@@ -1,6 +1,5 @@
 -- `store::set_fill` meets its contract: one word is written, at the place by its definition.
 use Rattle.store.specs.Store.{set_fill}
-use borrow.Author.Rules.{rules}
 use Rattle.store.proofs.set_fill.Goals as goal
 
 pub returns : goal.returns

@@ -1,5 +1,4 @@
 -- `store::set_height` meets its contract: one word is written.
-use borrow.Author.Rules.{rules}
 use mathlib.Core.Path.{refl}
 use Rattle.store.specs.Store.{set_height}
 use Rattle.store.proofs.set_height.Goals as goal

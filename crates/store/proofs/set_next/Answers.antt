@@ -1,5 +1,4 @@
 -- `store::set_next` meets its contract: one word is written, at the place by its definition.
-use borrow.Author.Rules.{rules}
 use Rattle.store.specs.Store.{set_next}
 use Rattle.store.proofs.set_next.Goals as goal
 

@@ -1,5 +1,4 @@
 -- `store::set_root` meets its contract: one word is written.
-use borrow.Author.Rules.{rules}
 use mathlib.Core.Path.{refl}
 use Rattle.store.specs.Store.{set_root}
 use Rattle.store.proofs.set_root.Goals as goal

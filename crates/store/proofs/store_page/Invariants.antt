@@ -1,11 +1,8 @@
 -- `store::store_page` meets its contract: what is left to write gives the whole.
-use borrow.Author.Rules.{rules}
 use Prim.Native.Nat.{◌+◌, ◌-◌, ◌≤◌}
-use mathlib.Core.Path.{◌≡◌, refl, ◌∙◌}
-use native.Mathlib.Omega.{arith}
-use lib.ListN.{length, drop, length-set}
+use mathlib.Core.Path.{◌≡◌}
+use lib.ListN.{length, drop}
 use lib.Seq.{sets}
-use Rattle.store.proofs.Turns.{store_start, store_turn, store_done}
 use Rattle.store.proofs.store_page.Given as goal
 
 abbrev pub invariant-loop-i : goal.invariant-loop-i

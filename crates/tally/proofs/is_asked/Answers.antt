@@ -1,5 +1,4 @@
 -- `tally::is_asked` meets its contract, task by task.
-use borrow.Author.Rules.{rules}
 use mathlib.Core.Path.{◌∙◌}
 use Rattle.tally.specs.Tasks.{accepts}
 use Rattle.tally.proofs.is_asked.Goals as goal

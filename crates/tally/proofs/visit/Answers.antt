@@ -1,7 +1,5 @@
 -- `tally::visit` meets its contract: passed by, or written and counted.
-use borrow.Author.Rules.{rules}
 use mathlib.Core.Path.{sym, ◌∙◌}
-use Rattle.words.proofs.Tests.{not_true, not_false}
 use Rattle.tally.proofs.Tallies.{tallied_pass, tallied_take}
 use Rattle.tally.proofs.visit.Goals as goal
 

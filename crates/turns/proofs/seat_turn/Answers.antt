@@ -1,7 +1,6 @@
 -- `turns::seat_turn` meets its contract: a closed seat is left, an open one is handed its pairs and marked behind them.
 use native.Mathlib.Omega.{arith}
 use Rattle.turns.proofs.Handed.{hands_few, hands_long, may_open, closed_turn, open_turn}
-use borrow.Author.Rules.{rules}
 use Rattle.turns.proofs.seat_turn.Goals as goal
 
 pub hand-n-requires : goal.hand-n-requires

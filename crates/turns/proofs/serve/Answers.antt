@@ -1,5 +1,5 @@
 use Prim.Native.Nat.{◌-◌}
-use Rattle.turns.proofs.ByTurns.{Stands, stands_first, stands_long, stands_may, stands_next, stands_last}
+use Rattle.turns.proofs.ByTurns.{stands_first, stands_long, stands_may, stands_next, stands_last}
 use borrow.Author.Rules.{rules}
 use Rattle.turns.proofs.serve.Goals as goal
 

@@ -1,7 +1,6 @@
 -- `turns::serve` meets its contract. The invariant: what stands after the turns made.
 use Prim.Native.Nat.{◌-◌}
-use Rattle.turns.proofs.ByTurns.{Stands, stands_first, stands_long, stands_may, stands_next, stands_last}
-use borrow.Author.Rules.{rules}
+use Rattle.turns.proofs.ByTurns.{Stands}
 use Rattle.turns.proofs.serve.Given as goal
 
 abbrev pub invariant-loop-i : goal.invariant-loop-i

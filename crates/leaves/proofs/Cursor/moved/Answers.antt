@@ -1,5 +1,4 @@
 -- `leaves::Cursor::moved` answers `moved_on`, by its test.
-use borrow.Author.Rules.{rules}
 use Rattle.leaves.proofs.Walks.{moved_in, moved_out}
 use Rattle.leaves.proofs.Cursor.moved.Goals as goal
 

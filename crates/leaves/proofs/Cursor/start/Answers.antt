@@ -1,5 +1,4 @@
 -- `leaves::Cursor::start` meets its contract: at the end, or at an entry.
-use borrow.Author.Rules.{rules}
 use Rattle.leaves.proofs.Faces.{faced_end, faced_next}
 use Rattle.leaves.proofs.Cursor.start.Goals as goal
 

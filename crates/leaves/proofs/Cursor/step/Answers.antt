@@ -1,5 +1,4 @@
 -- `leaves::Cursor::step` answers `step_from`: the end, or the entry and the cursor moved on.
-use borrow.Author.Rules.{rules}
 use Rattle.leaves.proofs.Walks.{step_end, step_next}
 use Rattle.leaves.proofs.Cursor.step.Goals as goal
 

@@ -1,9 +1,7 @@
 -- `sets::fill` is safe and ends.
-use borrow.Author.Rules.{rules}
 use Prim.Native.Nat.{◌-◌, ◌≤◌}
-use mathlib.Core.Path.{◌≡◌, refl}
-use native.Mathlib.Omega.{arith}
-use lib.ListN.{length, length-set}
+use mathlib.Core.Path.{◌≡◌}
+use lib.ListN.{length}
 use Rattle.replay.proofs.sets.fill.Given as goal
 
 abbrev pub invariant-loop-i : goal.invariant-loop-i

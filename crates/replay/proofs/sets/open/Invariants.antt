@@ -1,9 +1,7 @@
 -- `replay::sets::open` is safe and ends.
-use borrow.Author.Rules.{rules}
 use Prim.Native.Nat.{◌-◌, ◌≤◌}
 use mathlib.Core.Path.{◌≡◌}
-use native.Mathlib.Omega.{arith}
-use lib.ListN.{length, length-set}
+use lib.ListN.{length}
 use Rattle.replay.proofs.sets.open.Given as goal
 
 abbrev pub invariant-loop-a : goal.invariant-loop-a

@@ -1,5 +1,4 @@
 -- `sets::told_places` is safe and ends.
-use borrow.Author.Rules.{rules}
 use Prim.Native.Nat.{◌-◌, ◌≤◌}
 use lib.ListN.{length}
 use Rattle.replay.proofs.sets.told_places.Given as goal
