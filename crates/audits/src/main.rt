@@ -77,7 +77,7 @@ fn case(rt: &impl Print, input: &mut impl Read, img: &mut [u32]) -> io::Result<(
 }
 
 fn main(rt: HostRuntime) -> io::Result<()> {
-    let mut input = rt.stdin();
+    let mut input = rt.reader();
     let mut img = [0u32; pages::IMAGE_WORDS];
     console::next_words(&mut input, &mut img)?;
     tell(&rt, &img)?;

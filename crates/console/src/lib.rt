@@ -6,6 +6,7 @@ ghost use Rattle.std.specs.Prelude.{ℕ, ◌<◌, ◌≤◌, length, take, IfOk,
 ghost use Rattle.std.specs.Io.KnownBytes.{Consumes, IsAtEnd};
 
 use std::env::FillError;
+use std::fmt::InlineText;
 use std::fs::File;
 use std::io;
 use std::io::{ErrorKind, Read};
@@ -120,4 +121,21 @@ pub fn open_read<R: Files>(rt: &R, name: &[u8]) -> io::Result<R::File> {
         Ok(path) => File::open(rt, path),
         Err(_) => Err(io::Error::from(ErrorKind::InvalidFilename)),
     }
+}
+
+// What an error's text has in front of the number that the system gives it.
+fn before_number(told: &str) -> &str {
+    match told.split_once(" (os error ") {
+        Some((words, _)) => words,
+        None => told,
+    }
+}
+
+// Tells in a line what failed, as the caller names it, and why, in the system's words.
+pub fn fail(rt: &impl Print, what: &[u8], why: io::Error) -> io::Result<()> {
+    let told = InlineText::<128>::of(why);
+    text(rt, what)?;
+    text(rt, b": ")?;
+    text(rt, before_number(told.as_str()).as_bytes())?;
+    text(rt, b"\n")
 }

@@ -3,19 +3,19 @@
 #![tactic(auto)]
 
 use regions::{Choice, Kind, Region, Seat};
+use std::io;
 
 // An example's line.
-fn check(name: &[u8], got: usize, expected: usize) {
-    console::text(name);
+fn check(rt: &impl Print, name: &[u8], got: usize, expected: usize) -> io::Result<()> {
+    console::text(rt, name)?;
     if got == expected {
-        console::text(b": right\n");
-        return;
+        return console::text(rt, b": right\n");
     }
-    console::text(b": wrong, ");
-    console::number(got);
-    console::text(b" and not ");
-    console::number(expected);
-    console::text(b"\n");
+    console::text(rt, b": wrong, ")?;
+    console::number(rt, got)?;
+    console::text(rt, b" and not ")?;
+    console::number(rt, expected)?;
+    console::text(rt, b"\n")
 }
 
 // Opens a set in which account 0 has a share, and the others none.
@@ -70,46 +70,74 @@ fn open_inner(img: &mut [u32]) {
 }
 
 // REGION.
-fn saves(outer: &mut [u32]) {
+fn saves(rt: &impl Print, outer: &mut [u32]) -> io::Result<()> {
     open_outer(outer, 10);
-    check(b"save (7, 7)", save(outer, 7, 7, 1, 0), 2);
-    check(b"save (65530, 65540)", save(outer, 65530, 65540, 1, 0), 2);
+    check(rt, b"save (7, 7)", save(outer, 7, 7, 1, 0), 2)?;
+    check(
+        rt,
+        b"save (65530, 65540)",
+        save(outer, 65530, 65540, 1, 0),
+        2,
+    )
 }
 
 // LEVEL (change request C-15): around all others there is no level left; around (60, 80) and inside (30, 40) the level may not be theirs.
-fn levels(outer: &mut [u32]) {
+fn levels(rt: &impl Print, outer: &mut [u32]) -> io::Result<()> {
     open_outer(outer, 10);
-    check(b"save (5, 95) at level 1", save(outer, 5, 95, 1, 105), 14);
-    check(b"save (55, 85) at level 2", save(outer, 55, 85, 2, 105), 14);
-    check(b"save (33, 37) at level 3", save(outer, 33, 37, 3, 105), 14);
-    check(b"save (33, 37) at level 4", save(outer, 33, 37, 4, 105), 0);
+    check(
+        rt,
+        b"save (5, 95) at level 1",
+        save(outer, 5, 95, 1, 105),
+        14,
+    )?;
+    check(
+        rt,
+        b"save (55, 85) at level 2",
+        save(outer, 55, 85, 2, 105),
+        14,
+    )?;
+    check(
+        rt,
+        b"save (33, 37) at level 3",
+        save(outer, 33, 37, 3, 105),
+        14,
+    )?;
+    check(
+        rt,
+        b"save (33, 37) at level 4",
+        save(outer, 33, 37, 4, 105),
+        0,
+    )
 }
 
 // SHARE comes after LEVEL.
-fn full_levels(outer: &mut [u32]) {
+fn full_levels(rt: &impl Print, outer: &mut [u32]) -> io::Result<()> {
     open_outer(outer, 4);
     check(
+        rt,
         b"with share 4, save (5, 95)",
         save(outer, 5, 95, 1, 105),
         14,
-    );
+    )
 }
 
 // SHARE comes after CROSS, and a delete gives the room back.
-fn full_account(outer: &mut [u32]) {
+fn full_account(rt: &impl Print, outer: &mut [u32]) -> io::Result<()> {
     open_outer(outer, 4);
     check(
+        rt,
         b"with share 4, save (91, 95)",
         save(outer, 91, 95, 1, 105),
         6,
-    );
+    )?;
     check(
+        rt,
         b"with share 4, save (45, 55)",
         save(outer, 45, 55, 3, 105),
         5,
-    );
-    check(b"delete 30", delete(outer, 30), 0);
-    check(b"then save (91, 95)", save(outer, 91, 95, 1, 105), 0);
+    )?;
+    check(rt, b"delete 30", delete(outer, 30), 0)?;
+    check(rt, b"then save (91, 95)", save(outer, 91, 95, 1, 105), 0)
 }
 
 fn join_by(outer: &[u32], inner: &[u32], kind: Kind, out: &mut [u32]) -> usize {
@@ -134,15 +162,15 @@ fn pairs_of(out: &[u32], start: u32) -> usize {
     n
 }
 
-fn bench_join(outer: &[u32], inner: &[u32]) {
+fn bench_join(rt: &impl Print, outer: &[u32], inner: &[u32]) -> io::Result<()> {
     let mut out = [0u32; 32];
     let total = join(outer, inner, &mut out);
-    check(b"pairs of the join", total, 8);
-    check(b"pairs of 25", pairs_of(&out, 25), 2);
-    check(b"pairs of 35", pairs_of(&out, 35), 3);
-    check(b"pairs of 55", pairs_of(&out, 55), 1);
-    check(b"pairs of 70", pairs_of(&out, 70), 2);
-    check(b"pairs of 95", pairs_of(&out, 95), 0);
+    check(rt, b"pairs of the join", total, 8)?;
+    check(rt, b"pairs of 25", pairs_of(&out, 25), 2)?;
+    check(rt, b"pairs of 35", pairs_of(&out, 35), 3)?;
+    check(rt, b"pairs of 55", pairs_of(&out, 55), 1)?;
+    check(rt, b"pairs of 70", pairs_of(&out, 70), 2)?;
+    check(rt, b"pairs of 95", pairs_of(&out, 95), 0)
 }
 
 // The desk with seat 0 open for account 0's ancestor join, at limit 3.
@@ -174,22 +202,22 @@ fn serve(outer: &[u32], inner: &[u32], seats: [Seat; regions::SEAT_COUNT]) -> Se
     }
 }
 
-fn bench_rounds(outer: &[u32], inner: &[u32]) {
+fn bench_rounds(rt: &impl Print, outer: &[u32], inner: &[u32]) -> io::Result<()> {
     let first = serve(outer, inner, open_desk());
-    check(b"handed in round 1 at limit 3", first.handed, 3);
+    check(rt, b"handed in round 1 at limit 3", first.handed, 3)?;
     let seats = first.seats;
     let second = serve(outer, inner, seats);
-    check(b"handed in round 2", second.handed, 3);
+    check(rt, b"handed in round 2", second.handed, 3)?;
     let later = second.seats;
     let third = serve(outer, inner, later);
-    check(b"handed in round 3", third.handed, 2);
+    check(rt, b"handed in round 3", third.handed, 2)?;
     let last = third.seats;
     let fourth = serve(outer, inner, last);
-    check(b"handed in round 4", fourth.handed, 0);
+    check(rt, b"handed in round 4", fourth.handed, 0)
 }
 
 // Algorithm 6 would stop where the outer list ends, and lose the second pair.
-fn outer_list_ends(outer: &mut [u32], inner: &mut [u32]) {
+fn outer_list_ends(rt: &impl Print, outer: &mut [u32], inner: &mut [u32]) -> io::Result<()> {
     open(outer, 10);
     save(outer, 1, 100, 1, 101);
     open(inner, 10);
@@ -197,47 +225,49 @@ fn outer_list_ends(outer: &mut [u32], inner: &mut [u32]) {
     save(inner, 4, 5, 2, 202);
     let mut out = [0u32; 32];
     let total = join(outer, inner, &mut out);
-    check(b"pairs behind the outer list's end", total, 2);
-    check(b"the second pair's d", words::wide(out[6]), 4);
+    check(rt, b"pairs behind the outer list's end", total, 2)?;
+    check(rt, b"the second pair's d", words::wide(out[6]), 4)
 }
 
 // Algorithm 5 would go from the higher key down; the answer runs from outermost to innermost.
-fn outermost_first(outer: &mut [u32]) {
+fn outermost_first(rt: &impl Print, outer: &mut [u32]) -> io::Result<()> {
     open_outer(outer, 10);
     let mut out = [0u32; 12];
     queries::find_ancestors(outer, 0, 35, Choice::Strict, &mut out);
-    check(b"the first ancestor of 35", words::wide(out[0]), 10);
-    check(b"the second", words::wide(out[4]), 20);
-    check(b"the third", words::wide(out[8]), 30);
+    check(rt, b"the first ancestor of 35", words::wide(out[0]), 10)?;
+    check(rt, b"the second", words::wide(out[4]), 20)?;
+    check(rt, b"the third", words::wide(out[8]), 30)
 }
 
 // Two traps of the source: a region that starts at the position is not its ancestor, and a walk along the leaves has to stop behind the last one.
-fn leaf_ends(outer: &mut [u32]) {
+fn leaf_ends(rt: &impl Print, outer: &mut [u32]) -> io::Result<()> {
     open_outer(outer, 10);
-    check(b"ancestors of a start", ancestors(outer, 60), 1);
+    check(rt, b"ancestors of a start", ancestors(outer, 60), 1)?;
     let mut out = [0u32; 64];
     let d = queries::find_descendants(outer, 0, 5, 1000, 0, &mut out);
-    check(b"descendants up to the last leaf's end", d.count, 4);
+    check(rt, b"descendants up to the last leaf's end", d.count, 4)
 }
 
 // With self a region that starts at the position is listed too, as the last, but none that ends there; and a set joined with itself has each region with all around it.
-fn with_self(outer: &mut [u32]) {
+fn with_self(rt: &impl Print, outer: &mut [u32]) -> io::Result<()> {
     open_outer(outer, 10);
     check(
+        rt,
         b"with self of a start",
         around(outer, 30, Choice::WithSelf),
         3,
-    );
+    )?;
     check(
+        rt,
         b"with self of an end",
         around(outer, 40, Choice::WithSelf),
         2,
-    );
+    )?;
     let mut out = [0u32; 32];
     let total = join_by(outer, outer, Kind::AncestorOrSelf, &mut out);
-    check(b"pairs of a set with itself", total, 8);
-    check(b"the last pair's a", words::wide(out[28]), 60);
-    check(b"the last pair's d", words::wide(out[30]), 60);
+    check(rt, b"pairs of a set with itself", total, 8)?;
+    check(rt, b"the last pair's a", words::wide(out[28]), 60)?;
+    check(rt, b"the last pair's d", words::wide(out[30]), 60)
 }
 
 // One region around a row of forty, whose leaves make keys that stab it.
@@ -252,7 +282,7 @@ fn open_row(img: &mut [u32]) {
 }
 
 // A key that goes without handing on its list would hide the region around the row: after each delete it has still to be found.
-fn keys_go(img: &mut [u32]) {
+fn keys_go(rt: &impl Print, img: &mut [u32]) -> io::Result<()> {
     open_row(img);
     let mut found: usize = 0;
     let mut i: u32 = 0;
@@ -263,23 +293,23 @@ fn keys_go(img: &mut [u32]) {
         }
         i += 1;
     }
-    check(b"found while its keys go", found, 40);
+    check(rt, b"found while its keys go", found, 40)
 }
 
-fn main() {
+fn main(rt: HostRuntime) -> io::Result<()> {
     let mut outer = [0u32; pages::IMAGE_WORDS];
     let mut inner = [0u32; pages::IMAGE_WORDS];
-    saves(&mut outer);
-    levels(&mut outer);
-    full_levels(&mut outer);
-    full_account(&mut outer);
+    saves(&rt, &mut outer)?;
+    levels(&rt, &mut outer)?;
+    full_levels(&rt, &mut outer)?;
+    full_account(&rt, &mut outer)?;
     open_outer(&mut outer, 10);
     open_inner(&mut inner);
-    bench_join(&outer, &inner);
-    bench_rounds(&outer, &inner);
-    outer_list_ends(&mut outer, &mut inner);
-    outermost_first(&mut outer);
-    leaf_ends(&mut outer);
-    with_self(&mut outer);
-    keys_go(&mut outer);
+    bench_join(&rt, &outer, &inner)?;
+    bench_rounds(&rt, &outer, &inner)?;
+    outer_list_ends(&rt, &mut outer, &mut inner)?;
+    outermost_first(&rt, &mut outer)?;
+    leaf_ends(&rt, &mut outer)?;
+    with_self(&rt, &mut outer)?;
+    keys_go(&rt, &mut outer)
 }

@@ -6,19 +6,28 @@ ghost use Rattle.std.specs.Prelude.{◌≡◌, ◌≤◌, T, length};
 ghost use Rattle.regions.specs.Limits.{buffer_words, last_account};
 ghost use Rattle.image.specs.Valid.{valid};
 
-use libc::STDIN_FILENO;
 use regions::Mark;
+use std::io;
+use std::io::Read;
+use std::rt::{Env, Files};
 
-fn refused(n: u32, line: usize) {
-    console::text(b"refused ");
-    console::number(words::wide(n));
-    console::text(b" ");
-    console::number(line);
-    console::text(b"\n");
+fn refused(rt: &impl Print, n: u32, line: usize) -> io::Result<()> {
+    console::text(rt, b"refused ")?;
+    console::number(rt, words::wide(n))?;
+    console::text(rt, b" ")?;
+    console::number(rt, line)?;
+    console::text(rt, b"\n")
 }
 
 // One account's pairs, batch after batch until one is empty.
-fn print_batches(outer: &[u32], inner: &[u32], account: u32, pairs: &mut [u32], out: &mut [u8])
+fn print_batches(
+    rt: &impl Print,
+    outer: &[u32],
+    inner: &[u32],
+    account: u32,
+    pairs: &mut [u32],
+    out: &mut [u8],
+) -> io::Result<()>
     requires t { T (valid outer.now) × T (valid inner.now) }
     requires account_le_last_account { account ≤ last_account }
     requires pairs_len { (length pairs.old ≡ buffer_words) × (length out.old ≡ 11264) }
@@ -27,52 +36,52 @@ fn print_batches(outer: &[u32], inner: &[u32], account: u32, pairs: &mut [u32], 
     loop {
         let b = printout::next_lines(outer, inner, account, mark, pairs, out);
         if b.pairs == 0 {
-            return;
+            return Ok(());
         }
         let n = b.bytes;
-        console::text(&out[..n]);
+        console::text(rt, &out[..n])?;
         mark = b.mark;
     }
 }
 
 // The same with room for a batch: 256 pairs, whose lines have at most 44 bytes each.
-fn print_account(outer: &[u32], inner: &[u32], account: u32)
+fn print_account(rt: &impl Print, outer: &[u32], inner: &[u32], account: u32) -> io::Result<()>
     requires t { T (valid outer.now) × T (valid inner.now) }
     requires account_le_last_account { account ≤ last_account }
 {
     let mut pairs = [0u32; regions::BUFFER_WORDS];
     let mut out = [0u8; 11264];
-    print_batches(outer, inner, account, &mut pairs, &mut out);
+    print_batches(rt, outer, inner, account, &mut pairs, &mut out)
 }
 
 // The join, account after account.
-fn print_join(outer: &[u32], inner: &[u32])
+fn print_join(rt: &impl Print, outer: &[u32], inner: &[u32]) -> io::Result<()>
     requires { T (valid outer.now) × T (valid inner.now) }
 {
     let mut account: u32 = 0;
     while account < 16 {
-        print_account(outer, inner, account);
+        print_account(rt, outer, inner, account)?;
         account += 1;
     }
+    Ok(())
 }
 
 // One listing's answer.
-fn answer(listing: &[u8]) {
+fn answer(rt: &impl Print, listing: &[u8]) -> io::Result<()> {
     let mut outer = [0u32; pages::IMAGE_WORDS];
     let mut inner = [0u32; pages::IMAGE_WORDS];
     let heard = listing::read_listing(listing, &mut outer, &mut inner);
     if heard.number != 0 {
-        refused(heard.number, heard.line);
-        return;
+        return refused(rt, heard.number, heard.line);
     }
-    print_join(&outer, &inner);
+    print_join(rt, &outer, &inner)
 }
 
 // The listing that a file holds, with one byte more than a listing may have, so that a longer one is seen to be too long.
-fn answer_file(file: i32) {
+fn answer_file(rt: &impl Print, file: &mut impl Read) -> io::Result<()> {
     let mut bytes = [0u8; 65537];
-    let n = io::read_full(file, &mut bytes);
-    answer(&bytes[..n]);
+    let n = console::read_full(file, &mut bytes)?;
+    answer(rt, &bytes[..n])
 }
 
 fn is_dash(name: &[u8]) -> bool {
@@ -82,36 +91,36 @@ fn is_dash(name: &[u8]) -> bool {
     name[0] == b'-'
 }
 
-// The listing that an argument names.
-fn answer_named(name: &[u8]) {
+// The listing that an argument names. Where it cannot be opened, that is told on standard error, and the next one is answered.
+fn answer_named<R: Files + Input + Print>(rt: &R, err: &impl Print, name: &[u8]) -> io::Result<()> {
     if is_dash(name) {
-        answer_file(STDIN_FILENO);
-        return;
+        return answer_file(rt, &mut rt.reader());
     }
-    let file = os::open_read(name);
-    if file < 0 {
-        os::fail(name);
-        return;
+    match console::open_read(rt, name) {
+        Ok(mut file) => answer_file(rt, &mut file),
+        Err(why) => console::fail(err, name, why),
     }
-    answer_file(file);
-    libc::close(file);
 }
 
-fn answer_argument(i: usize) {
-    let mut name = io::buffer();
-    let n = os::arg(i, &mut name);
-    answer_named(&name[..n]);
+fn answer_argument<R: Env + Files + Input + Print>(
+    rt: &R,
+    err: &impl Print,
+    i: usize,
+) -> io::Result<()> {
+    let mut name = [0u8; 4096];
+    let n = console::argument(rt, i, &mut name);
+    answer_named(rt, err, &name[..n])
 }
 
-fn main() {
-    let count = os::arg_count();
+fn main(rt: HostRuntime) -> io::Result<()> {
+    let count = console::argument_count(&rt);
     if count < 2 {
-        answer_file(STDIN_FILENO);
-        return;
+        return answer_file(&rt, &mut rt.reader());
     }
     let mut i: usize = 1;
     while i < count {
-        answer_argument(i);
+        answer_argument(&rt, &rt.stderr(), i)?;
         i += 1;
     }
+    Ok(())
 }

@@ -253,7 +253,7 @@ fn play_named<R: Env + Files + Print>(rt: &R, err: &impl Print, i: usize) -> io:
 fn main(rt: HostRuntime) -> io::Result<()> {
     let n = console::argument_count(&rt);
     if n < 2 {
-        return play_file(&rt, &mut rt.stdin());
+        return play_file(&rt, &mut rt.reader());
     }
     let mut i: usize = 1;
     while i < n {
