@@ -8,7 +8,7 @@ use Rattle.image.specs.Read.{set_of}
 use Rattle.listing_join.proofs.print_batches.Given as goal
 
 abbrev pub invariant-loop-b : goal.invariant-loop-b
-invariant-loop-b l = (length l.pairs ≡ 1024) × (length l.out ≡ 11264)
+invariant-loop-b g l = (length l.pairs ≡ 1024) × (length l.out ≡ 11264)
 
 abbrev pub decreases-loop-b : goal.decreases-loop-b
-decreases-loop-b l = length (past l.mark (joined (set_of l.outer) (set_of l.inner) l.account Ancestor))
+decreases-loop-b g l = length (past l.mark (joined (set_of l.outer) (set_of l.inner) l.account Ancestor))

@@ -5,7 +5,7 @@ use lib.ListN.{length}
 use Rattle.replay.proofs.sets.open.Given as goal
 
 abbrev pub invariant-loop-a : goal.invariant-loop-a
-invariant-loop-a l = (l.a ≤ 16) × (length l.shares ≡ 16)
+invariant-loop-a g l = (l.a ≤ 16) × (length l.shares ≡ 16)
 
 abbrev pub decreases-loop-a : goal.decreases-loop-a
-decreases-loop-a l = 16 - l.a
+decreases-loop-a g l = 16 - l.a
