@@ -5,7 +5,7 @@ use lib.ListN.{length}
 use Rattle.examples.proofs.keys_go.Given as goal
 
 abbrev pub invariant-loop-i : goal.invariant-loop-i
-invariant-loop-i l = (l.i ≤ 40) × (l.found ≤ l.i) × (length l.img ≡ length l.initial.img)
+invariant-loop-i g l = (l.i ≤ 40) × (l.found ≤ l.i) × (length l.img ≡ length l.initial.img)
 
 abbrev pub decreases-loop-i : goal.decreases-loop-i
-decreases-loop-i l = 40 - l.i
+decreases-loop-i g l = 40 - l.i
