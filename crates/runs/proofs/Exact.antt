@@ -3,7 +3,7 @@
 -- Assumes nothing.
 use Prim.Native.Nat.{ℕ, ◌+◌, ◌<◌, ◌≤◌}
 use mathlib.Core.Path.{◌≡◌, refl, sym, ap, ◌∙◌, subst}
-use mathlib.Core.Logic.{◌↔◌, inl}
+use mathlib.Core.Logic.{◌↔◌, inl, inr}
 use mathlib.Core.Bool.{Bool, ◌&&◌}
 use mathlib.Core.List.{List, [], ◌∷◌}
 use lib.Dec.{T}
@@ -125,6 +125,7 @@ parents S p l r =
 -- a list of one has no other
 only_one : (x r : Region) → In x (r ∷ []) → x ≡ r
 only_one x r (inl e) = e
+only_one x r (inr h) = elim h [ ]
 
 pub the_parent : (S : Set) (p l : ℕ) (r : Region) → parent p l S ≡ r ∷ [] → TheOne S (ParentOf p l) r
 the_parent S p l r e =
