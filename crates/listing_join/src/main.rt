@@ -28,7 +28,7 @@ fn print_batches(
     pairs: &mut [u32],
     out: &mut [u8],
 ) -> io::Result<()>
-    requires t { T (valid outer.now) × T (valid inner.now) }
+    requires both_valid { T (valid outer.now) × T (valid inner.now) }
     requires account_le_last_account { account ≤ last_account }
     requires pairs_len { (length pairs.old ≡ buffer_words) × (length out.old ≡ 11264) }
 {
@@ -46,7 +46,7 @@ fn print_batches(
 
 // The same with room for a batch: 256 pairs, whose lines have at most 44 bytes each.
 fn print_account(rt: &impl Print, outer: &[u32], inner: &[u32], account: u32) -> io::Result<()>
-    requires t { T (valid outer.now) × T (valid inner.now) }
+    requires both_valid { T (valid outer.now) × T (valid inner.now) }
     requires account_le_last_account { account ≤ last_account }
 {
     let mut pairs = [0u32; regions::BUFFER_WORDS];

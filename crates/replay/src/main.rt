@@ -3,7 +3,7 @@
 // from 1, and the script ends there; of one that is too long only `script 0`.
 #![tactic(auto)]
 
-mod seats;
+mod asked;
 mod sets;
 
 ghost use Rattle.std.specs.Prelude.{◌≤◌, length};
@@ -115,7 +115,7 @@ fn on_two<'a>(
         return Ok(store);
     }
     let desk = store.seats;
-    let left = seats::round(rt, x, y, desk, buffer)?;
+    let left = asked::round(rt, x, y, desk, buffer)?;
     Ok(with_seats(store, left))
 }
 
@@ -124,10 +124,10 @@ fn on_desk(rt: &impl Print, buffer: &[u32], store: Store, c: Command) -> io::Res
     let numbers = c.numbers;
     let desk = store.seats;
     if c.what == script::PART {
-        seats::part(rt, desk, buffer, numbers)?;
+        asked::part(rt, desk, buffer, numbers)?;
         return Ok(store);
     }
-    let left = seats::call(rt, desk, c.what, numbers)?;
+    let left = asked::call(rt, desk, c.what, numbers)?;
     Ok(with_seats(store, left))
 }
 
