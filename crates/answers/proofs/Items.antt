@@ -2,11 +2,11 @@
 -- Assumes nothing.
 use Prim.Native.Nat.{ℕ, zero, suc, ◌+◌, ◌*◌, ◌-◌, ◌/◌, ◌<◌, ◌≤◌}
 use mathlib.Core.Path.{◌≡◌, refl, sym, ap, ◌∙◌}
-use mathlib.Core.List.{List, [], ◌∷◌, ◌++◌, map, flat_map}
-use lib.ListN.{length, take, set}
-use lib.Seq.{sets, length-sets, take_all, take-nil, take-append-le}
+use mathlib.Core.List.{append-nil, append_assoc, List, [], ◌∷◌, ◌++◌, map, flat_map}
+use lib.ListN.{length, take, drop, length-take, length-drop}
+use borrow.Rule.Slice.PartMut.{put_mid}
+use lib.Seq.{sets, length-sets, take_all, take-nil, take-append-le, sets-eq, drop-drop}
 use native.Mathlib.Omega.{arith}
-use native.Mathlib.Numerals.{towards_suc}
 use native.Mathlib.Nat.{mul-zero, mul-add}
 use native.Mathlib.Decide.{dec_le}
 use Rattle.words.proofs.Written.{sets_append, flat_long, take_append_more}
@@ -76,7 +76,12 @@ module _ {X : Type 0} (words : X → List ℕ) (width : ℕ) (wide : (x : X) →
   pub from_append : written_from words width k out (xs ++ ys) ≡ written_from words width (k + length xs) (written_from words width k out xs) ys
   from_append = elim (dec_le (length xs) (room width out - k)) [ yes h ↦ all_fit h | no h ↦ some_fit (omega arith) ]
 
--- an item of four words
-pub four_written : (k : ℕ) (out : List ℕ) (a b c d : ℕ) → k < room 4 out
-    → set (set (set (set out (4 * k) a) (4 * k + 1) b) (4 * k + 2) c) (4 * k + 3) d ≡ written_from as_words 4 k out ((a ∷ b ∷ c ∷ d ∷ []) ∷ [])
-four_written k out a b c d h = simp towards_suc (sym (from_one as_words 4 k out (a ∷ b ∷ c ∷ d ∷ []) h))
+-- an item of four words, written in the place of those that stand there
+pub item_written : (k n : ℕ) (out ws item : List ℕ) → k < room 4 out → n ≡ 4 → length ws ≡ length (take n (drop (4 * k) out)) → ws ≡ item
+    → put_mid (4 * k) n out ws ≡ written_from as_words 4 k out (item ∷ [])
+item_written k n out ws item h f l e =
+    let fits : length ws ≡ 4 = l ∙ length-take n (drop (4 * k) out) ∙ omega (arith, length-drop (4 * k) out) in
+    let all : ws ++ [] ≡ ws = append-nil ws in
+    let rest : drop n (drop (4 * k) out) ≡ drop (4 * k + length ws) out = rw (fits, f) (drop-drop 4 (4 * k) out) in
+    rw (rest, ← e)
+    (sym (append_assoc (take (4 * k) out) ws (drop (4 * k + length ws) out)) ∙ sym (sets-eq ws out (4 * k) (omega arith)) ∙ rw (from_one as_words 4 k out ws h, all))

@@ -2,7 +2,7 @@
 -- Assumes nothing.
 use Prim.Native.Nat.{ℕ, ◌<◌}
 use mathlib.Core.Path.{◌≡◌, sym, ◌∙◌}
-use mathlib.Core.Bool.{Bool, true, false, true≢false}
+use mathlib.Core.Bool.{true, false, true≢false}
 use mathlib.Core.List.{List}
 use lib.ListN.{get_or}
 use Rattle.regions.specs.Sets.{held_by}
@@ -12,17 +12,17 @@ use Rattle.image.specs.Shape.{shapely, regions_right, lists_right}
 use Rattle.image.proofs.Parts.{valid_parts}
 use Rattle.audit.specs.Report.{Reports}
 
-invalid : (w held : List ℕ) (ok : Bool) → ok ≡ false → valid w ≡ false → Reports w ok held
-invalid w held ok e v = record { decides = e ∙ sym v; counts = λ t. absurd (true≢false (sym t ∙ v)) }
+invalid : (w held : List ℕ) → valid w ≡ false → Reports w false held
+invalid w held v = record { decides = sym v; counts = λ t. absurd (true≢false (sym t ∙ v)) }
 
-pub no_shape : (w held : List ℕ) (ok : Bool) → ok ≡ false → shapely w ≡ false → Reports w ok held
-no_shape w held ok e s = invalid w held ok e (valid_parts w ∙ rw s)
+pub no_shape : (w held : List ℕ) → shapely w ≡ false → Reports w false held
+no_shape w held s = invalid w held (valid_parts w ∙ rw s)
 
-pub no_regions : (w held : List ℕ) (ok : Bool) → ok ≡ false → shapely w ≡ true → regions_right w ≡ false → Reports w ok held
-no_regions w held ok e s r = invalid w held ok e (valid_parts w ∙ rw (s, r))
+pub no_regions : (w held : List ℕ) → shapely w ≡ true → regions_right w ≡ false → Reports w false held
+no_regions w held s r = invalid w held (valid_parts w ∙ rw (s, r))
 
-pub no_lists : (w held : List ℕ) (ok : Bool) → ok ≡ false → shapely w ≡ true → regions_right w ≡ true → lists_right w ≡ false → Reports w ok held
-no_lists w held ok e s r l = invalid w held ok e (valid_parts w ∙ rw (s, r, l))
+pub no_lists : (w held : List ℕ) → shapely w ≡ true → regions_right w ≡ true → lists_right w ≡ false → Reports w false held
+no_lists w held s r l = invalid w held (valid_parts w ∙ rw (s, r, l))
 
 pub all_right : (w held : List ℕ) → shapely w ≡ true → regions_right w ≡ true → lists_right w ≡ true → ((a : ℕ) → a < 16 → get_or held a 0 ≡ held_by a (set_of w)) → Reports w true held
 all_right w held s r l c = record { decides = sym (valid_parts w ∙ rw (s, r, l)); counts = λ v. c }

@@ -3,35 +3,23 @@
 // change, a place and a word. A case's changes are made, the image is audited, and the words that were there are put back.
 #![tactic(auto)]
 
-ghost use Rattle.std.specs.Prelude.{◌≤◌};
-
 use std::io;
 use std::io::Read;
 
-#[derive(Clone, Copy)]
+#[derive(Clone, Copy, Debug, PartialEq, Eq)]
 pub struct Changes {
     pub places: [u32; 8],
     pub words: [u32; 8],
 }
 
-fn at_most_8(x: u32) -> u32
-    ensures { result ≤ 8 }
-{
-    if x < 8 { x } else { 8 }
-}
-
 // A case's changes; the places that are not used lie past every image.
 fn read_changes(input: &mut impl Read) -> io::Result<Changes> {
-    let count = console::next_word(input)?;
-    let used = at_most_8(count);
+    let used = console::next_word(input)?.min(8) as usize;
     let mut places = [4294967295u32; 8];
     let mut words = [0u32; 8];
-    let mut i: u32 = 0;
-    while i < used {
-        let at = words::wide(i);
-        places[at] = console::next_word(input)?;
-        words[at] = console::next_word(input)?;
-        i += 1;
+    for i in 0..used {
+        places[i] = console::next_word(input)?;
+        words[i] = console::next_word(input)?;
     }
     Ok(Changes { places, words })
 }
@@ -49,19 +37,15 @@ fn swap(img: &mut [u32], place: usize, word: u32) -> u32 {
 
 // Changes the words, and answers the same changes with the words that were there: so a second call undoes the first.
 fn change(img: &mut [u32], c: Changes) -> Changes {
-    let places = c.places;
     let mut words = c.words;
-    let mut i: usize = 0;
-    while i < 8 {
-        words[i] = swap(img, words::wide(places[i]), words[i]);
-        i += 1;
+    for i in 0..8 {
+        words[i] = swap(img, c.places[i] as usize, words[i]);
     }
-    Changes { places, words }
+    Changes { words, ..c }
 }
 
 fn tell(rt: &impl Print, img: &[u32]) -> io::Result<()> {
-    let r = audit::audit(img);
-    if r.ok {
+    if audit::is_valid(img) {
         console::text(rt, b"1")
     } else {
         console::text(rt, b"0")
@@ -82,10 +66,8 @@ fn main(rt: HostRuntime) -> io::Result<()> {
     console::next_words(&mut input, &mut img)?;
     tell(&rt, &img)?;
     let cases = console::next_word(&mut input)?;
-    let mut i: u32 = 0;
-    while i < cases {
+    for _ in 0..cases {
         case(&rt, &mut input, &mut img)?;
-        i += 1;
     }
     console::text(&rt, b"\n")
 }

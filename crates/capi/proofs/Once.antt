@@ -10,10 +10,11 @@ use Rattle.words.specs.Lists.{some}
 use Rattle.flat.specs.Numbers.{kind_of}
 use Rattle.regions.specs.Numbers.{unless}
 use Rattle.regions.specs.Desk.{closed, seat_word}
+use Rattle.regions.specs.Refusals.{number_told}
 use Rattle.regions.specs.declared.Region.{Region}
 use Rattle.regions.specs.declared.Seat.{Seat}
 use Rattle.parts.specs.Lent.{word_at}
-use Rattle.queries.specs.Searches.{parent_number, parent_found}
+use Rattle.queries.specs.Searches.{parent_found}
 use Rattle.queries.proofs.Once.{parent_once}
 use Rattle.desk.specs.Promises.{LendsPart}
 use Rattle.desk.proofs.Once.{opens_desk_once, opens_seat_once, closes_seat_once, rounds_once}
@@ -25,7 +26,7 @@ use Rattle.capi.specs.Seats.{Left, OpensFlatDesk, OpensFlatSeat, ClosesFlatSeat,
 pub tells_once : (w : List ℕ) (a p l : ℕ) (m n : ℕ) (f g : Bool) (r s : Region) → TellsParent w a p l m f r → TellsParent w a p l n g s → (m ≡ n) × (f ≡ g) × (r ≡ s)
 tells_once w a p l m n f g r s x y =
     let same = parent_once w a p l x.answer y.answer x.finds y.finds in (
-      x.number_is ∙ (ap parent_number same ∙ sym y.number_is),
+      x.number_is ∙ (ap number_told same ∙ sym y.number_is),
       x.found_is ∙ (ap (λ z. some (parent_found z)) same ∙ sym y.found_is),
       x.region_is ∙ (ap (λ z. told (parent_found z)) same ∙ sym y.region_is),
     )

@@ -3,19 +3,22 @@
 use Prim.Native.Nat.{ℕ}
 use mathlib.Core.Path.{◌≡◌, refl, subst}
 use mathlib.Core.List.{List}
+use Rattle.std.specs.Prelude.{Option, Result}
 use Rattle.words.specs.Lists.{some}
+use Rattle.regions.specs.Refusals.{number_told}
+use Rattle.regions.specs.declared.Region.{Region}
+use Rattle.regions.specs.declared.Refusal.{Refusal}
 use Rattle.regions.specs.declared.Choice.{Choice}
 use Rattle.regions.specs.declared.Kind.{Kind}
 use Rattle.queries.specs.Joins.{JoinsSets}
-use Rattle.queries.specs.Searches.{FindsAncestors, FindsParent, parent_number, parent_found}
-use Rattle.queries.specs.declared.Parent.{Parent}
+use Rattle.queries.specs.Searches.{FindsAncestors, FindsParent, parent_found}
 use Rattle.capi.specs.Border.{told, TellsParent}
 
 -- what is told of an answer that is known
-pub tells : (w : List ℕ) (account p level : ℕ) (answer known : Parent)
+pub tells : (w : List ℕ) (account p level : ℕ) (answer known : Result (Option Region) Refusal)
     → FindsParent w account p level answer
     → answer ≡ known
-    → TellsParent w account p level (parent_number known) (some (parent_found known)) (told (parent_found known))
+    → TellsParent w account p level (number_told known) (some (parent_found known)) (told (parent_found known))
 tells w account p level answer known finds is =
     record { answer = known; finds = subst (FindsParent w account p level) is finds; number_is = refl; found_is = refl; region_is = refl }
 

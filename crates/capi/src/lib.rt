@@ -12,7 +12,6 @@ ghost use Rattle.capi.specs.Border.{region, TellsParent};
 ghost use Rattle.capi.specs.Seats.{OpensFlatDesk, OpensFlatSeat, ClosesFlatSeat, RoundsFlat, PartsFlat};
 
 use flat::FlatDesk;
-use queries::Parent;
 use regions::Region;
 
 // The ancestor search's answer: its number, how many ancestors there are, and the steps it made.
@@ -62,7 +61,7 @@ pub extern "C" fn sasnuvarth_open_set(
     ensures { OpensSet img.old shares.now result img.new }
 {
     let given = *shares;
-    index::open_set(img, given)
+    regions::number_told(index::open_set(img, given))
 }
 
 // Saves a region.
@@ -78,12 +77,12 @@ pub extern "C" fn sasnuvarth_save(
     ensures { Saves img.old account (region start end level reference) result img.new }
 {
     let r = Region {
-        start: start,
-        end: end,
-        level: level,
-        reference: reference,
+        start,
+        end,
+        level,
+        reference,
     };
-    index::save(img, account, r)
+    regions::number_told(index::save(img, account, r))
 }
 
 // Deletes a region.
@@ -91,7 +90,7 @@ pub extern "C" fn sasnuvarth_save(
 pub extern "C" fn sasnuvarth_delete(img: &mut [u32], account: u32, start: u32) -> u32
     ensures { Deletes img.old account start result img.new }
 {
-    index::delete(img, account, start)
+    regions::number_told(index::delete(img, account, start))
 }
 
 // Saves and deletes many, and tells each item's number in its place.
@@ -99,7 +98,7 @@ pub extern "C" fn sasnuvarth_delete(img: &mut [u32], account: u32, start: u32) -
 pub extern "C" fn sasnuvarth_batch(img: &mut [u32], items: &[u32], places: &mut [u32]) -> u32
     ensures { Batches img.old items.now places.old result img.new places.new }
 {
-    index::batch(img, items, places)
+    regions::number_told(index::batch(img, items, places))
 }
 
 // The ancestors of position p, by the choice.
@@ -113,11 +112,17 @@ pub extern "C" fn sasnuvarth_ancestors(
 ) -> AncestorsAnswer
     ensures { FindsAncestors img.now account p (choice_of_number choice) out.old result.number result.total result.steps out.new }
 {
-    let a = queries::find_ancestors(img, account, p, flat::choice_of(choice), out);
-    AncestorsAnswer {
-        number: a.number,
-        total: a.total,
-        steps: a.steps,
+    match queries::find_ancestors(img, account, p, flat::choice_of(choice), out) {
+        Ok(a) => AncestorsAnswer {
+            number: 0,
+            total: a.total,
+            steps: a.steps,
+        },
+        Err(r) => AncestorsAnswer {
+            number: u32::from(r),
+            total: 0,
+            steps: 0,
+        },
     }
 }
 
@@ -126,17 +131,16 @@ pub extern "C" fn sasnuvarth_ancestors(
 pub extern "C" fn sasnuvarth_parent(img: &[u32], account: u32, p: u32, level: u32) -> ParentAnswer
     ensures { TellsParent img.now account p level result.number result.found (region result.start result.end result.level result.reference) }
 {
-    let answer = queries::find_parent(img, account, p, level);
-    match answer {
-        Parent::Refused(n) => ParentAnswer {
-            number: n,
+    match queries::find_parent(img, account, p, level) {
+        Err(r) => ParentAnswer {
+            number: u32::from(r),
             found: false,
             start: 0,
             end: 0,
             level: 0,
             reference: 0,
         },
-        Parent::Nothing => ParentAnswer {
+        Ok(None) => ParentAnswer {
             number: 0,
             found: false,
             start: 0,
@@ -144,7 +148,7 @@ pub extern "C" fn sasnuvarth_parent(img: &[u32], account: u32, p: u32, level: u3
             level: 0,
             reference: 0,
         },
-        Parent::At(r) => ParentAnswer {
+        Ok(Some(r)) => ParentAnswer {
             number: 0,
             found: true,
             start: r.start,
@@ -167,11 +171,17 @@ pub extern "C" fn sasnuvarth_descendants(
 ) -> ListAnswer
     ensures { FindsDescendants img.now account start end after out.old result.number result.count result.more out.new }
 {
-    let l = queries::find_descendants(img, account, start, end, after, out);
-    ListAnswer {
-        number: l.number,
-        more: l.more,
-        count: l.count,
+    match queries::find_descendants(img, account, start, end, after, out) {
+        Ok(l) => ListAnswer {
+            number: 0,
+            more: l.more,
+            count: l.count,
+        },
+        Err(r) => ListAnswer {
+            number: u32::from(r),
+            more: false,
+            count: 0,
+        },
     }
 }
 
@@ -188,11 +198,17 @@ pub extern "C" fn sasnuvarth_children(
 ) -> ListAnswer
     ensures { FindsChildren img.now account start end level after out.old result.number result.count result.more out.new }
 {
-    let l = queries::find_children(img, account, start, end, level, after, out);
-    ListAnswer {
-        number: l.number,
-        more: l.more,
-        count: l.count,
+    match queries::find_children(img, account, start, end, level, after, out) {
+        Ok(l) => ListAnswer {
+            number: 0,
+            more: l.more,
+            count: l.count,
+        },
+        Err(r) => ListAnswer {
+            number: u32::from(r),
+            more: false,
+            count: 0,
+        },
     }
 }
 
@@ -207,10 +223,12 @@ pub extern "C" fn sasnuvarth_join(
 ) -> JoinAnswer
     ensures { JoinsSets outer.now inner.now account (kind_of kind) out.old result.number result.total out.new }
 {
-    let j = queries::join_sets(outer, inner, account, flat::kind_of(kind), out);
-    JoinAnswer {
-        number: j.number,
-        total: j.total,
+    match queries::join_sets(outer, inner, account, flat::kind_of(kind), out) {
+        Ok(total) => JoinAnswer { number: 0, total },
+        Err(r) => JoinAnswer {
+            number: u32::from(r),
+            total: 0,
+        },
     }
 }
 
@@ -247,11 +265,7 @@ pub struct PartAnswer {
 pub extern "C" fn sasnuvarth_open_desk() -> FlatDesk
     ensures { OpensFlatDesk result.seats }
 {
-    let s = regions::closed_seat();
-    let seats = [s; regions::SEAT_COUNT];
-    let opened = desk::open_desk_by_value(seats);
-    let left = opened.seats;
-    flat::flat_desk(left)
+    flat::flat_desk([regions::closed_seat(); regions::SEAT_COUNT])
 }
 
 // Opens seat i.
@@ -265,15 +279,12 @@ pub extern "C" fn sasnuvarth_open_seat(
 ) -> DeskAnswer
     ensures { OpensFlatSeat desk.seats i account kind limit result.number result.desk.seats }
 {
-    let given = desk.seats;
-    let seats = flat::seats_of(given);
+    let mut seats = flat::seats_of(desk.seats);
     let k = flat::kind_of(kind);
-    let s = desk::open_seat_by_value(seats, i, account, k, limit);
-    let after = s.seats;
-    let left = flat::desk_left(s.number, desk, after);
+    let number = regions::number_told(desk::open_seat(&mut seats, i, account, k, limit));
     DeskAnswer {
-        number: s.number,
-        desk: left,
+        number,
+        desk: flat::desk_left(number, desk, seats),
     }
 }
 
@@ -282,14 +293,11 @@ pub extern "C" fn sasnuvarth_open_seat(
 pub extern "C" fn sasnuvarth_close_seat(desk: FlatDesk, i: u32) -> DeskAnswer
     ensures { ClosesFlatSeat desk.seats i result.number result.desk.seats }
 {
-    let given = desk.seats;
-    let seats = flat::seats_of(given);
-    let s = desk::close_seat_by_value(seats, i);
-    let after = s.seats;
-    let left = flat::desk_left(s.number, desk, after);
+    let mut seats = flat::seats_of(desk.seats);
+    let number = regions::number_told(desk::close_seat(&mut seats, i));
     DeskAnswer {
-        number: s.number,
-        desk: left,
+        number,
+        desk: flat::desk_left(number, desk, seats),
     }
 }
 
@@ -303,16 +311,18 @@ pub extern "C" fn sasnuvarth_round(
 ) -> RoundAnswer
     ensures { RoundsFlat outer.now inner.now desk.seats buffer.old result.number result.counts result.desk.seats buffer.new }
 {
-    let given = desk.seats;
-    let seats = flat::seats_of(given);
-    let s = desk::round_by_value(outer, inner, seats, buffer);
-    let after = s.seats;
-    let counts = s.counts;
-    let left = flat::desk_left(s.number, desk, after);
-    RoundAnswer {
-        number: s.number,
-        counts: counts,
-        desk: left,
+    let mut seats = flat::seats_of(desk.seats);
+    match desk::round(outer, inner, &mut seats, buffer) {
+        Ok(counts) => RoundAnswer {
+            number: 0,
+            counts,
+            desk: flat::flat_desk(seats),
+        },
+        Err(r) => RoundAnswer {
+            number: u32::from(r),
+            counts: [0; regions::SEAT_COUNT],
+            desk,
+        },
     }
 }
 
@@ -321,19 +331,17 @@ pub extern "C" fn sasnuvarth_round(
 pub extern "C" fn sasnuvarth_part(desk: FlatDesk, buffer: &[u32], i: u32, count: u32) -> PartAnswer
     ensures { PartsFlat desk.seats buffer.now i count result.number result.first result.words }
 {
-    let given = desk.seats;
-    let seats = flat::seats_of(given);
-    let number = desk::part_number_by_value(seats, buffer, i, count);
-    if number == 0 {
-        return PartAnswer {
+    let seats = flat::seats_of(desk.seats);
+    match desk::asks_part(&seats, buffer, i, count) {
+        Ok(()) => PartAnswer {
             number: 0,
-            first: regions::SEAT_WIDTH * words::wide(i),
-            words: 4 * words::wide(count),
-        };
-    }
-    PartAnswer {
-        number: number,
-        first: 0,
-        words: 0,
+            first: regions::SEAT_WIDTH * (i as usize),
+            words: regions::PAIR_WIDTH * (count as usize),
+        },
+        Err(r) => PartAnswer {
+            number: u32::from(r),
+            first: 0,
+            words: 0,
+        },
     }
 }

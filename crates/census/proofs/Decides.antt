@@ -2,12 +2,14 @@
 -- Assumes nothing.
 use Prim.Native.Nat.{ℕ, zero, suc, ◌+◌, ◌-◌, ◌<◌, ◌≤◌, zero-le}
 use mathlib.Core.Path.{◌≡◌, refl, sym, ap, ◌∙◌}
-use mathlib.Core.Bool.{Bool, true, false, ◌&&◌, false≢true}
+use mathlib.Core.Bool.{Bool, true, false, ◌&&◌}
 use mathlib.Core.List.{List, [], ◌∷◌}
 use lib.Dec.{T, leb, ltb, eqb, ltb→lt, lt→ltb}
 use lib.ListN.{length, get_or}
 use lib.Seq.{get_or-set_same, get_or-set_other}
 use native.Mathlib.Omega.{arith}
+use Rattle.std.specs.Prelude.{Some, None, is_some, option_and_then}
+use Rattle.std.proofs.lemmas.Option.{none-some, same_Some}
 use Rattle.words.specs.Lists.{filter, All, Pairs, sum}
 use Rattle.words.proofs.Tests.{T_of, of_T, no_t, by_test, and_left, and_right, and_both, and_false, lt_of, nlt_of, eq_of, ne_of, eq_yes, eq_no}
 use Rattle.words.proofs.Listed.{all_mono, all_two, all_every, pairs_two, filter_none}
@@ -20,7 +22,7 @@ use Rattle.regions.specs.declared.Region.{Region}
 use Rattle.regions.proofs.Means.{formed_says, nested_in_turn, leveled_in_turn}
 use Rattle.regions.proofs.Rising.{nesting_says, leveling_says}
 use Rattle.xrtree.specs.Rules.{shares_kept, rule6}
-use Rattle.nesting.specs.Pass.{Around, kept, pop, under, Passed, refused, going, left_for, take_one, enter}
+use Rattle.nesting.specs.Pass.{Around, kept, pop, under, Passed, going, left_for, take_one, enter}
 use Rattle.nesting.proofs.Stack.{under_says, some_at}
 use Rattle.census.specs.Pass.{pass}
 
@@ -116,22 +118,17 @@ admits_some r st left t =
 admits_under : (r : Region) (st : List Around) (left : List ℕ) → T (admits r st left) → T (under r (pop r.start st))
 admits_under r st left t = and_right (ltb 0 (left_for r left)) _ (and_right (well_formed r) _ t)
 
-pass_cons : (r : Region) (rs : List Region) (s : Passed) → pass (r ∷ rs) s ≡ pass rs (enter r s)
+pass_cons : (r : Region) (rs : List Region) (s : Passed) → pass (r ∷ rs) s ≡ option_and_then (pass rs) (enter r s)
 unfolding pass
 pass_cons r rs s = refl
 
-enter_yes : (r : Region) (st : List Around) (left : List ℕ) → admits r st left ≡ true → enter r (going st left) ≡ going (put r st) (take_one r left)
+enter_yes : (r : Region) (st : List Around) (left : List ℕ) → admits r st left ≡ true → enter r (going st left) ≡ Some (going (put r st) (take_one r left))
 unfolding enter
 enter_yes r st left h = rw h
 
-enter_no : (r : Region) (st : List Around) (left : List ℕ) → admits r st left ≡ false → enter r (going st left) ≡ refused
+enter_no : (r : Region) (st : List Around) (left : List ℕ) → admits r st left ≡ false → enter r (going st left) ≡ None
 unfolding enter
 enter_no r st left h = rw h
-
-pass_refused : (rs : List Region) → pass rs refused ≡ refused
-unfolding pass enter
-pass_refused [] = refl
-pass_refused (r ∷ rs) = pass_refused rs
 
 -- ALL REGIONS
 abbrev Right : List Around → List ℕ → List Region → Type 0
@@ -161,11 +158,11 @@ module _ (r : Region) (rs : List Region) (st : List Around) (left : List ℕ) wh
     λ a. omega (arith, m.3 a, held_more a r rs, took_one a r left (admits_some r st left t)),
   )
 
-pass_none : (st : List Around) (left : List ℕ) → Says (pass [] (going st left)).ok (Right st left [])
+pass_none : (st : List Around) (left : List ℕ) → Says (is_some (pass [] (going st left))) (Right st left [])
 unfolding pass filter
 pass_none st left = record { yes_so = λ t. (tt, tt, tt, λ a. zero-le); so_yes = λ m. tt }
 
-pass_says : (rs : List Region) (st : List Around) (left : List ℕ) → Outwards st → Rising rs → Says (pass rs (going st left)).ok (Right st left rs)
+pass_says : (rs : List Region) (st : List Around) (left : List ℕ) → Outwards st → Rising rs → Says (is_some (pass rs (going st left))) (Right st left rs)
 pass_says [] st left o f = pass_none st left
 pass_says (r ∷ rs) st left o f =
     by_test (admits r st left)
@@ -174,28 +171,28 @@ pass_says (r ∷ rs) st left o f =
     (pass_says rs (put r st) (take_one r left) (push_outwards r (pop r.start st) (pop_outwards r.start st o) (admits_under r st left (T_of h))) f.1)
     (right_whole r rs st left o f.0 (T_of h))
     (right_rest r rs st left (T_of h))))
-    (λ h. rw (pass_cons r rs (going st left), enter_no r st left h, pass_refused rs)
+    (λ h. rw (pass_cons r rs (going st left), enter_no r st left h)
     (record { yes_so = λ t. absurd t; so_yes = λ m. absurd (no_t h (right_admits r rs st left m)) }))
 
 -- a pass that went well let its first region in
-first_in : (r : Region) (rs : List Region) (st : List Around) (left : List ℕ) → (pass (r ∷ rs) (going st left)).ok ≡ true
-    → (0 < left_for r left) × (pass (r ∷ rs) (going st left) ≡ pass rs (going (put r st) (take_one r left)))
-first_in r rs st left k =
+first_in : (r : Region) (rs : List Region) (st : List Around) (left : List ℕ) (p : Passed) → pass (r ∷ rs) (going st left) ≡ Some p
+    → (0 < left_for r left) × (pass rs (going (put r st) (take_one r left)) ≡ Some p)
+first_in r rs st left p k =
     by_test (admits r st left)
-    (λ h. (admits_some r st left (T_of h), pass_cons r rs (going st left) ∙ ap (pass rs) (enter_yes r st left h)))
-    (λ h. absurd (false≢true (rw (pass_cons r rs (going st left) ∙ ap (pass rs) (enter_no r st left h) ∙ pass_refused rs) at k)))
+    (λ h. (admits_some r st left (T_of h), sym (pass_cons r rs (going st left) ∙ ap (option_and_then (pass rs)) (enter_yes r st left h)) ∙ k))
+    (λ h. absurd (none-some p (sym (pass_cons r rs (going st left) ∙ ap (option_and_then (pass rs)) (enter_no r st left h)) ∙ k)))
 
 -- what was taken of each share
-none_after : (st : List Around) (left : List ℕ) (a : ℕ) → held_in a [] + get_or (pass [] (going st left)).left a 0 ≡ get_or left a 0
+none_after : (st : List Around) (left : List ℕ) (p : Passed) → pass [] (going st left) ≡ Some p → (a : ℕ) → held_in a [] + get_or p.left a 0 ≡ get_or left a 0
 unfolding pass filter
-none_after st left a = omega arith
+none_after st left p k a = let e : get_or left a 0 ≡ get_or p.left a 0 = ap (λ (s : Passed). get_or s.left a 0) (same_Some (going st left) p k) in omega arith
 
-left_after : (rs : List Region) (st : List Around) (left : List ℕ) → (pass rs (going st left)).ok ≡ true → (a : ℕ) → held_in a rs + get_or (pass rs (going st left)).left a 0 ≡ get_or left a 0
-left_after [] st left k a = none_after st left a
-left_after (r ∷ rs) st left k a =
-    let f = first_in r rs st left k in
-    let i = left_after rs (put r st) (take_one r left) (rw f.1 at k) a in
-    rw f.1 (omega (arith, i, held_more a r rs, took_one a r left f.0))
+left_after : (rs : List Region) (st : List Around) (left : List ℕ) (p : Passed) → pass rs (going st left) ≡ Some p → (a : ℕ) → held_in a rs + get_or p.left a 0 ≡ get_or left a 0
+left_after [] st left p k a = none_after st left p k a
+left_after (r ∷ rs) st left p k a =
+    let f = first_in r rs st left p k in
+    let i = left_after rs (put r st) (take_one r left) p f.1 a in
+    omega (arith, i, held_more a r rs, took_one a r left f.0)
 
 -- RULE 6. Of two regions the second starts behind the first, and ends behind its own start
 abbrev Behind : Region → Region → Type 0
@@ -252,7 +249,7 @@ none_above a h rs s = ap length (filter_none (of a) rs (all_mono (λ r k. not_of
     not_of : (r : Region) → Small r → of a r ≡ false
     not_of r k = eq_no (account r.start) a (λ e. omega arith)
 
-pub pass_decides : (S : Set) → Rising S.regions → All Small S.regions → sum S.shares ≤ 500 → (pass S.regions (going [] S.shares)).ok ≡ rule6 S
+pub pass_decides : (S : Set) → Rising S.regions → All Small S.regions → sum S.shares ≤ 500 → is_some (pass S.regions (going [] S.shares)) ≡ rule6 S
 pass_decides S f s h =
     says_same (pass_says S.regions [] S.shares tt f)
     (says_iff (rule_says S)
@@ -269,5 +266,5 @@ pub rule_over : (S : Set) → leb (sum S.shares) 500 ≡ false → false ≡ rul
 unfolding rule6
 rule_over S h = rw (h, and_false, and_false, and_false, and_false)
 
-pub held_is : (S : Set) → (pass S.regions (going [] S.shares)).ok ≡ true → (a : ℕ) → (held_by a S + get_or (pass S.regions (going [] S.shares)).left a 0 ≡ share_of a S)
-held_is S k a = left_after S.regions [] S.shares k a
+pub held_is : (S : Set) (p : Passed) → pass S.regions (going [] S.shares) ≡ Some p → (a : ℕ) → (held_by a S + get_or p.left a 0 ≡ share_of a S)
+held_is S p k a = left_after S.regions [] S.shares p k a

@@ -1,6 +1,6 @@
 -- The pass over all regions of an image in ascending start.
 -- Assumes nothing.
-use Rattle.std.specs.Prelude.{ℕ, List, [], ◌∷◌}
+use Rattle.std.specs.Prelude.{ℕ, List, [], ◌∷◌, Option, Some, option_and_then}
 use Rattle.regions.specs.declared.Region.{Region}
 use Rattle.xrtree.specs.Tree.{regions}
 use Rattle.image.specs.Read.{read_tree}
@@ -15,6 +15,7 @@ regions_at w h p = regions h (read_tree h w p)
 unfoldable pub Fills : ℕ → List ℕ → ℕ → Type 0
 Fills h w p = FillsFrom 0 h w p
 
-unfoldable pub pass : List Region → Passed → Passed
-pass [] s = s
-pass (r ∷ rs) s = pass rs (enter r s)
+-- the first region that is refused ends the pass
+unfoldable pub pass : List Region → Passed → Option Passed
+pass [] s = Some s
+pass (r ∷ rs) s = option_and_then (pass rs) (enter r s)

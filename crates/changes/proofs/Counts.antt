@@ -68,43 +68,33 @@ module _ (w w' held : List ℕ) (a : ℕ) (l : a < 16) (c : Counted held w) wher
       (ap (held_by a) s ∙ omega (arith, one_less w a p v e, c.1 a l))
       (λ b q. ap (held_by b) s ∙ others_deleted (set_of w) p b (λ z. q (z ∙ (delete_done (set_of w) a p e).own.same)))
 
--- WHAT IS KEPT by a call on a valid image, done or refused
+-- WHAT IS COUNTED behind a call on a valid image that was done
 module _ (w held : List ℕ) (v : T (valid w)) (c : Counted held w) where
-  pub stays_counted : (w' : List ℕ) → w' ≡ w → T (valid w') × Counted held w'
-  stays_counted w' e = (subst (λ x. T (valid x)) (sym e) v, subst (Counted held) (sym e) c)
-
-  module _ (a : ℕ) (r : Region) (n : ℕ) (w' : List ℕ) (s : SavesIn w a r n w') (z : n ≡ 0) where
+  module _ (a : ℕ) (r : Region) (w' : List ℕ) (s : SavesIn w a r 0 w') where
     -- what counting asks for
     pub save_counts : (a < 16) × (get_or held a 0 < 500)
     save_counts =
-        let e = sym s.number_is ∙ z in
-        let b : a < 16 = omega (arith, (save_done (set_of w) a r e).own.range) in
-        (b, count_room w held a r v e b c)
+        let b : a < 16 = omega (arith, (save_done (set_of w) a r (sym s.number_is)).own.range) in
+        (b, count_room w held a r v (sym s.number_is) b c)
 
-    pub save_counted : (held' : List ℕ) → held' ≡ set held a (suc (get_or held a 0)) → SavesIn w a r 0 w' × T (valid w') × Counted held' w'
-    save_counted held' h =
-        let d = s.done z in
-        (subst (λ x. SavesIn w a r x w') z s, d.0, subst (λ x. Counted x w') (sym h) (counts_on w w' held a save_counts.0 c r (sym s.number_is ∙ z) d.1))
+    pub save_counted : T (valid w') × Counted (set held a (get_or held a 0 + 1)) w'
+    save_counted =
+        let d = s.done refl in
+        (d.0, subst (λ n. Counted (set held a n) w') (sym (add-one (get_or held a 0))) (counts_on w w' held a save_counts.0 c r (sym s.number_is) d.1))
 
-  module _ (a p : ℕ) (n : ℕ) (w' : List ℕ) (s : DeletesIn w a p n w') (z : n ≡ 0) where
+  module _ (a p : ℕ) (w' : List ℕ) (s : DeletesIn w a p 0 w') where
     pub delete_counts : (a < 16) × (0 < get_or held a 0)
     delete_counts =
-        let e = sym s.number_is ∙ z in
+        let e = sym s.number_is in
         let b : a < 16 = omega (arith, (delete_done (set_of w) a p e).own.range) in
         (b, omega (arith, one_less w a p v e, c.1 a b))
 
-    pub delete_counted : (held' : List ℕ) → held' ≡ set held a (get_or held a 0 - 1) → DeletesIn w a p 0 w' × T (valid w') × Counted held' w'
-    delete_counted held' h =
-        let d = s.done z in
-        (subst (λ x. DeletesIn w a p x w') z s, d.0, subst (λ x. Counted x w') (sym h) (counts_off w w' held a delete_counts.0 c p v (sym s.number_is ∙ z) d.1))
+    pub delete_counted : T (valid w') × Counted (set held a (get_or held a 0 - 1)) w'
+    delete_counted =
+        let d = s.done refl in
+        (d.0, counts_off w w' held a delete_counts.0 c p v (sym s.number_is) d.1)
 
 -- an image that holds nothing
 pub counts_none : (w : List ℕ) → (set_of w).regions ≡ [] → Counted (replicate 16 0) w
 unfolding filter
 counts_none w e = (refl, λ a l. get_or-replicate 16 a 0 0 l ∙ sym (ap (λ rs. length (filter (of a) rs)) e))
-
-pub raised : (held : List ℕ) (a b : ℕ) → b ≡ a → set held b (get_or held b 0 + 1) ≡ set held a (suc (get_or held a 0))
-raised held a b e = ap₂ (set held) e (add-one (get_or held b 0) ∙ ap (λ i. suc (get_or held i 0)) e)
-
-pub lowered : (held : List ℕ) (a b : ℕ) → b ≡ a → set held b (get_or held b 0 - 1) ≡ set held a (get_or held a 0 - 1)
-lowered held a b e = ap (λ i. set held i (get_or held i 0 - 1)) e

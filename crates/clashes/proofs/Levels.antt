@@ -2,11 +2,12 @@
 -- region that starts inside it has one not above.
 -- Assumes nothing.
 use Prim.Native.Nat.{ℕ, ◌<◌}
+use Rattle.std.specs.Prelude.{Option}
 use mathlib.Core.Path.{◌≡◌, refl, sym, ap, ◌∙◌}
 use mathlib.Core.Bool.{Bool, true, false, ◌||◌}
 use mathlib.Core.List.{List, [], ◌∷◌}
 use mathlib.Core.Logic.{◌⊎◌, inl, inr}
-use lib.Dec.{T, leb}
+use lib.Dec.{T}
 use native.Mathlib.Omega.{arith}
 use native.Mathlib.Decide.{dec_lt}
 use Rattle.words.specs.Lists.{filter, some, last_or, All}
@@ -21,8 +22,6 @@ use Rattle.regions.proofs.Chain.{Deepening, deepens}
 use Rattle.image.specs.Read.{set_of}
 use Rattle.image.specs.Valid.{valid}
 use Rattle.inside.specs.Lists.{up_to}
-use Rattle.tally.specs.declared.Found.{Found}
-use Rattle.tally.specs.declared.Found.TheVariants.{Nothing, At}
 use Rattle.tally.specs.Tallies.{found_list}
 use Rattle.clashes.specs.Reach.{reaches, reach, innermost, level_from}
 use Rattle.clashes.proofs.Crossing.{Clear, reaches_says, reach_inward, by_last, unfiltered, nests_clear, fail_together, or_none}
@@ -107,17 +106,8 @@ levels_test S r o long clear =
         none_some _ (filter_none (contradicts r) S.regions (all_two (λ x l m. agreed r long x l m) S.regions o.long agree))
 
 -- as the code tells it
-module _ (l : ℕ) where
-  pub none_level : (f : Found) → f ≡ Nothing → false ≡ level_from l (found_list f)
-  unfolding found_list level_from
-  none_level f k = rw k
-
-  pub found_level : (f : Found) (r : Region) → f ≡ At r → leb l r.level ≡ level_from l (found_list f)
-  unfolding found_list level_from
-  found_level f r k = rw k
-
 module _ (w : List ℕ) (r : Region) (t : T (valid w)) (long : r.start < r.end) (clear : crossed r (set_of w) ≡ false)
-    (f : Found) (around : found_list f ≡ innermost (reach r.start (set_of w))) where
+    (f : Option Region) (around : found_list f ≡ innermost (reach r.start (set_of w))) where
   tested : (a b : Bool) → a ≡ level_from r.level (found_list f) → b ≡ some (filter (up_to r.level) (filter (inside r.start r.end) (set_of w).regions))
       → (a || b) ≡ contradicted r (set_of w)
   tested a b i j = rw (i ∙ ap (level_from r.level) around, j) (sym (levels_test (set_of w) r (ordered w t) long clear))

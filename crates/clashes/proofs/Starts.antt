@@ -1,15 +1,17 @@
 -- The held region with a given start: starts ascend, so there is at most one, and it is the first that does not start before.
 -- Assumes nothing.
 use Prim.Native.Nat.{ℕ, ◌<◌, ◌≤◌}
+use Rattle.std.specs.Prelude.{Option, None, Some}
+use Rattle.std.specs.Bool.{then_some}
 use mathlib.Core.Path.{◌≡◌, refl, sym, ap, ◌∙◌}
 use mathlib.Core.Bool.{cond}
 use mathlib.Core.List.{List, [], ◌∷◌}
-use lib.Dec.{T}
+use lib.Dec.{T, eqb}
 use native.Mathlib.Omega.{arith}
 use Rattle.words.specs.Lists.{filter, All}
 use Rattle.words.proofs.Tests.{by_test}
 use Rattle.words.proofs.Listed.{all_mono, all_every, all_let, pairs_kept, filter_within}
-use Rattle.words.proofs.Says.{all_says, true_so, so_true, so_false}
+use Rattle.words.proofs.Says.{all_says, true_so, so_true}
 use Rattle.regions.specs.declared.Region.{Region}
 use Rattle.regions.specs.Sets.{is_at, starts_from}
 use Rattle.regions.proofs.Means.{Formed, formed_says, at_says, from_says}
@@ -21,12 +23,9 @@ use Rattle.image.proofs.Facts.{valid_facts}
 use Rattle.image.proofs.Sound.{set_rises, set_nests, set_leveled}
 use Rattle.leaves.specs.declared.Cursor.{Cursor}
 use Rattle.leaves.specs.declared.Entry.{Entry}
-use Rattle.leaves.specs.declared.Step.{Step}
-use Rattle.leaves.specs.declared.Step.TheVariants.{Next, End}
 use Rattle.leaves.specs.Cursors.{step_from}
 use Rattle.leaves.specs.Faces.{Faces}
 use Rattle.leaves.proofs.Faces.{faces_on, faces_end}
-use Rattle.tally.specs.declared.Found.TheVariants.{Nothing, At}
 use Rattle.tally.specs.Tallies.{found_list}
 
 -- WHAT A VALID IMAGE SAYS of the regions held
@@ -67,30 +66,26 @@ from_first y rs h =
     (all_mono {Q = λ (r : Region). y ≤ r.start} (λ r e. true_so (from_says y r) e) from (all_let (starts_from y) rs))
 
 -- A STEP of the cursor there hands that first one
-unfoldable pub step_at : ℕ → Step → List Region
-step_at y End = []
-step_at y (Next e on) = cond (is_at y e.region) (e.region ∷ []) []
+unfoldable pub step_at : ℕ → Option (Entry × Cursor) → List Region
+step_at y None = []
+step_at y (Some s) = cond (is_at y s.0.region) (s.0.region ∷ []) []
 
 step_first : (w : List ℕ) (y : ℕ) (c : Cursor) (rs : List Region) → Faces w c rs → step_at y (step_from w c) ≡ first_at y rs
 unfolding step_at first_at
 step_first w y c rs f = go (step_from w c) refl
   where
-    go : (s : Step) → step_from w c ≡ s → step_at y s ≡ first_at y rs
-    go End e = rw (faces_end w c rs f e)
-    go (Next h on) e = rw (faces_on w c rs h on f e).is
+    go : (s : Option (Entry × Cursor)) → step_from w c ≡ s → step_at y s ≡ first_at y rs
+    go None e = rw (faces_end w c rs f e)
+    go (Some (h, on)) e = rw (faces_on w c rs h on f e).is
 
-pub step_finds : (w : List ℕ) (y : ℕ) (c : Cursor) (s : Step) → T (valid w) → Faces w c (filter (starts_from y) (set_of w).regions) → s ≡ step_from w c → step_at y s ≡ filter (is_at y) (set_of w).regions
+pub step_finds : (w : List ℕ) (y : ℕ) (c : Cursor) (s : Option (Entry × Cursor)) → T (valid w) → Faces w c (filter (starts_from y) (set_of w).regions) → s ≡ step_from w c → step_at y s ≡ filter (is_at y) (set_of w).regions
 step_finds w y c s t f e = ap (step_at y) e ∙ step_first w y c (filter (starts_from y) (set_of w).regions) f ∙ sym (from_first y (set_of w).regions (ordered w t).rising)
 
 -- as the code tells it
-pub none_left : (y : ℕ) (s : Step) → s ≡ End → found_list Nothing ≡ step_at y s
+pub none_left : (y : ℕ) (s : Option (Entry × Cursor)) (r : Option Region) → s ≡ None → r ≡ None → found_list r ≡ step_at y s
 unfolding found_list step_at
-none_left y s e = rw e
+none_left y s r e f = rw (e, f)
 
-pub starts_elsewhere : (y : ℕ) (s : Step) (h : Entry) (on : Cursor) → s ≡ Next h on → (h.region.start ≡ y → ⊥) → found_list Nothing ≡ step_at y s
-unfolding found_list step_at
-starts_elsewhere y s h on e n = rw (e, so_false (at_says y h.region) n)
-
-pub starts_here : (y : ℕ) (s : Step) (h : Entry) (on : Cursor) → s ≡ Next h on → h.region.start ≡ y → found_list (At h.region) ≡ step_at y s
-unfolding found_list step_at
-starts_here y s h on e n = rw (e, so_true (at_says y h.region) n)
+pub first_left : (y : ℕ) (s : Option (Entry × Cursor)) (h : Entry) (on : Cursor) (r : Option Region) → s ≡ Some (h, on) → r ≡ then_some (eqb h.region.start y) h.region → found_list r ≡ step_at y s
+unfolding found_list step_at is_at
+first_left y s h on r e f = by_test (eqb h.region.start y) (λ t. rw (e, f, t)) (λ t. rw (e, f, t))

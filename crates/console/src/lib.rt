@@ -20,6 +20,7 @@ pub fn read_full<R: Read>(input: &mut R, room: &mut [u8]) -> io::Result<usize>
     ensures none_lost { OnErr result ((k : ℕ) × Consumes (R.remaining input.old) (R.remaining input.new) (take k room.new)) }
 {
     let mut done: usize = 0;
+    // No count of an index: each read fills as much as it likes.
     while done < room.len() {
         let n = input.read(&mut room[done..])?;
         if n == 0 {
@@ -34,17 +35,13 @@ pub fn read_full<R: Read>(input: &mut R, room: &mut [u8]) -> io::Result<usize>
 pub fn next_word(input: &mut impl Read) -> io::Result<u32> {
     let mut four = [0u8; 4];
     read_full(input, &mut four)?;
-    let low = lines::byte_at(&four, 0) + 256 * lines::byte_at(&four, 1);
-    let high = lines::byte_at(&four, 2) + 256 * lines::byte_at(&four, 3);
-    Ok((low + 65536 * high) as u32)
+    Ok(u32::from_le_bytes(four))
 }
 
 // The next words of the input, as many as there is room for.
 pub fn next_words(input: &mut impl Read, room: &mut [u32]) -> io::Result<()> {
-    let mut i: usize = 0;
-    while i < room.len() {
-        room[i] = next_word(input)?;
-        i += 1;
+    for word in room.iter_mut() {
+        *word = next_word(input)?;
     }
     Ok(())
 }
@@ -57,18 +54,16 @@ pub fn number(rt: &impl Print, n: usize) -> io::Result<()> {
     rt.print(n)
 }
 
-// Up to nine numbers on a line, which is put together and written by one call.
+// Up to nine numbers on a line, which is put together and written by one call: a macro of std would write number by number, which is slower.
 pub fn line(rt: &impl Print, numbers: &[u32]) -> io::Result<()>
     requires { length numbers.now ≤ 9 }
 {
     let mut bytes = [0u8; 99];
     let n = numbers.len();
     let mut at: usize = 0;
-    let mut i: usize = 0;
-    while i < n {
+    for i in 0..n {
         at = lines::put_number(&mut bytes, at, numbers[i]);
-        i += 1;
-        bytes[at] = lines::break_behind(n - i);
+        bytes[at] = lines::break_behind(n - (i + 1));
         at += 1;
     }
     text(rt, &bytes[..at])
@@ -77,22 +72,20 @@ pub fn line(rt: &impl Print, numbers: &[u32]) -> io::Result<()>
 // The first n lines of four words, regions or pairs, of which the slice may hold fewer.
 pub fn rows(rt: &impl Print, words: &[u32], n: usize) -> io::Result<()> {
     let mut at: usize = 0;
-    let mut i: usize = 0;
-    while i < n {
+    for _ in 0..n {
         if words.len() - at < 4 {
             return Ok(());
         }
         let end = at + 4;
         line(rt, &words[at..end])?;
         at = end;
-        i += 1;
     }
     Ok(())
 }
 
 // A count as a word. No count of a program comes near what a word holds.
 pub fn narrow(n: usize) -> u32 {
-    if n < 4294967296 { n as u32 } else { 4294967295 }
+    u32::try_from(n).unwrap_or(u32::MAX)
 }
 
 // How many arguments the program was started with, its own name among them. Without room an argument is only looked for.
@@ -109,10 +102,7 @@ pub fn argument_count(rt: &impl Env) -> usize {
 pub fn argument(rt: &impl Env, i: usize, room: &mut [u8]) -> usize
     ensures { result ≤ length room.new }
 {
-    match rt.arg(i, room) {
-        Ok(n) => n,
-        Err(_) => 0,
-    }
+    rt.arg(i, room).unwrap_or(0)
 }
 
 // Opens the file of a name for reading. The name has to be text in UTF-8, since std opens no other.

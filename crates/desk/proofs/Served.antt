@@ -51,16 +51,16 @@ module _ (os ns : List ℕ) (ys : List Seat) where
         }
 
     -- THE END: the number, by what the three tests answered; a refused round, and one that was served
-    pub number_told : (n : ℕ) (images desk : Bool) → n ≡ rounds_no images desk (length zs) → images ≡ (valid os && valid ns) → desk ≡ desk_fits ys → n ≡ number_of
-    number_told n images desk e f g = e ∙ ap₂ (λ (a b : Bool). rounds_no a b (length zs)) f g ∙ number_is
+    pub told_number : (n : ℕ) (images desk : Bool) → n ≡ rounds_no images desk (length zs) → images ≡ (valid os && valid ns) → desk ≡ desk_fits ys → n ≡ number_of
+    told_number n images desk e f g = e ∙ ap₂ (λ (a b : Bool). rounds_no a b (length zs)) f g ∙ number_is
 
-    pub may_serve : (n : ℕ) → n ≡ number_of → n ≡ 0 → MayServe os ns ys zs
-    may_serve n e z = tested (T_of (eq-eqb _ _ (sym e ∙ z)))
+    pub may_serve : 0 ≡ number_of → MayServe os ns ys zs
+    may_serve e = tested (T_of (eq-eqb _ _ (sym e)))
 
     pub round_refused : (n : ℕ) → n ≡ number_of → (n ≡ 0 → ⊥) → Rounds os ns ys zs n (replicate 8 0) ys zs
     unfolding number_of
     round_refused n e h = let f = ne_eqb _ _ h in record { number_is = e; counts_are = rw f refl; desk_is = rw f refl; buffer_is = rw f refl }
 
-    pub round_served : (n : ℕ) (ds : List Seat) (cs b : List ℕ) → n ≡ number_of → n ≡ 0 → Serves X Y ys zs ds cs b → Rounds os ns ys zs n cs ds b
+    pub round_served : (ds : List Seat) (cs b : List ℕ) → 0 ≡ number_of → Serves X Y ys zs ds cs b → Rounds os ns ys zs 0 cs ds b
     unfolding number_of
-    round_served n ds cs b e z s = let f = eq-eqb _ _ z in record { number_is = e; counts_are = rw f s.counts_are; desk_is = rw f s.desk_is; buffer_is = rw f s.buffer_is }
+    round_served ds cs b e s = record { number_is = e; counts_are = s.counts_are; desk_is = s.desk_is; buffer_is = s.buffer_is }

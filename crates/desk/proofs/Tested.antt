@@ -1,4 +1,4 @@
--- What the tests of the calls show: of a seat's number, of a part; and what a stored seat leaves.
+-- What the test of a part shows, and what a stored seat leaves.
 -- Assumes nothing.
 use mathlib.Core.Path.{◌≡◌, refl}
 use mathlib.Core.Bool.{Bool, true, false, not, cond}
@@ -17,6 +17,7 @@ use Rattle.regions.proofs.Seats.{limit_small}
 use Rattle.seats.proofs.Fitting.{each_ok}
 use Rattle.parts.specs.Lent.{PartThere}
 
+-- of tests that are denied twice, of a seat's number, and of a word as a size
 pub not_not : (t : Bool) → T (not (not t)) → t ≡ true
 not_not true h = refl
 not_not false h = absurd h
@@ -31,7 +32,7 @@ pub wide : (n : ℕ) → n < 2 ^ 32 → n < 2 ^ 64
 wide n h = omega arith
 
 -- where a part is not refused, its words are there
-pub part_there : (ds : List Seat) (b : List ℕ) (i n : ℕ) → PartThere (part_no ds b i n) b i n
+pub part_there : (ds : List Seat) (b : List ℕ) (i n : ℕ) → part_no ds b i n ≡ 0 → PartThere b i n
 part_there ds b i n e =
     let m = part_done ds b i n e in
     let f : seat_fits (seat_at ds i) ≡ true = each_ok ds i m.round.fits (let h = m.seat in omega arith) in

@@ -1,14 +1,21 @@
 -- Document 01, "Calls": the desk's calls, their promises. Each fixes the answer and every lent word afterwards, refusals included.
 -- Assumes nothing.
-use Rattle.std.specs.Prelude.{ℕ, ◌≡◌, ◌&&◌, List, map, set, replicate}
+use Rattle.std.specs.Prelude.{ℕ, ◌≡◌, not, ◌&&◌, List, [], ◌∷◌, ltb, map, set, replicate, Result, Ok, Err}
 use Rattle.std.specs.Borrow.{Bor}
-use Rattle.regions.specs.Numbers.{unless, image_first}
-use Rattle.regions.specs.Desk.{closed, opened, turned, counts, served, seat_word, part, open_desk_no, open_seat_no, close_seat_no, round_no, part_no}
+use Rattle.words.specs.Lists.{first_no}
+use Rattle.regions.specs.Limits.{last_seat}
+use Rattle.regions.specs.Numbers.{SEAT, DESK, unless, image_first}
+use Rattle.regions.specs.Desk.{closed, opened, desk_fits, turned, counts, served, seat_word, part, open_desk_no, open_seat_no, close_seat_no, round_no, part_no}
 use Rattle.regions.specs.declared.Kind.{Kind}
 use Rattle.regions.specs.declared.Seat.{Seat}
+use Rattle.regions.specs.declared.Refusal.{Refusal}
 use Rattle.image.specs.Read.{set_of}
 use Rattle.image.specs.Valid.{valid}
 use Rattle.parts.specs.Lent.{word_at}
+
+-- the place of seat i among eight that break no range
+unfoldable pub place_no : List Seat → ℕ → ℕ
+place_no ds i = first_no ((not (desk_fits ds), DESK) ∷ (ltb last_seat i, SEAT) ∷ [])
 
 -- all eight seats are closed, whatever stood there
 pub record OpensDesk (ds : List Seat) (number : ℕ) (ds' : List Seat) : Type 0 where
@@ -23,6 +30,11 @@ pub record OpensSeat (ds : List Seat) (i account : ℕ) (kind : Kind) (limit num
 pub record ClosesSeat (ds : List Seat) (i number : ℕ) (ds' : List Seat) : Type 0 where
   pub number_is : number ≡ close_seat_no ds i
   pub desk_is : ds' ≡ unless number (set ds i closed) ds
+
+-- the counts that a round's answer tells
+abbrev pub counts_told : Result (List ℕ) Refusal → List ℕ
+counts_told (Ok cs) = cs
+counts_told (Err _) = replicate 8 0
 
 -- IMAGE is tested before DESK; a refused round counts eight times 0 and changes no word
 pub record Rounds (outer inner : List ℕ) (ds : List Seat) (b : List ℕ) (number : ℕ) (cs : List ℕ) (ds' : List Seat) (b' : List ℕ) : Type 0 where

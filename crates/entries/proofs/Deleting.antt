@@ -1,5 +1,6 @@
 -- `take_entry` as a whole: what its calls ask is there, and the set without the region stands in the image afterwards.
 -- Assumes nothing.
+use Rattle.std.specs.Prelude.{Option}
 use Prim.Native.Nat.{ℕ, zero, suc, ◌+◌, ◌≤◌, ◌<◌}
 use mathlib.Core.Path.{◌≡◌, refl, sym, ap, ◌∙◌, subst}
 use mathlib.Core.List.{List, [], ◌∷◌, ◌++◌, head-eq_of_cons-eq}
@@ -100,7 +101,7 @@ module _ (w path : List ℕ) (us vs : List Region) (r : Region) (h : ℕ) (t : T
         let k = entry_nth (page_of w (get_or path d 0)) i 0 (fill_of (page_of w (get_or path d 0))) there.entry there.rest dropped in
         (k.0, ap (λ j. region_in (page_of w (get_or path d 0)) (entry_word j)) (sym z) ∙ k.1 ∙ there.region_is)
 
-  module _ (x : Spot) (x_is : x ≡ owner_along w r.start r.end (take d path)) where
+  module _ (x : Option Spot) (x_is : x ≡ owner_along w r.start r.end (take d path)) where
     spot : x ≡ spot_of r.start r.end h t
     spot = x_is ∙ path_owner w h t lies s.root path r.start d flat path_is here r.end (omega (arith, fits.0))
 
@@ -184,7 +185,7 @@ module _ (w path : List ℕ) (start : ℕ) (s : Leaving w path start) (d : ℕ) 
       pub owner_asks : (d ≤ 3) × All (λ p. fill_of (page_of w p) ≤ 9) (take d path)
       owner_asks = take_owner_asks w path s.earlier s.later s.region s.h s.t s.whole s.flat path_at d deep
 
-      module _ (x : Spot) (x_is : x ≡ owner_along w r.start r.end (take d path)) where
+      module _ (x : Option Spot) (x_is : x ≡ owner_along w r.start r.end (take d path)) where
         x_at : x ≡ owner_along w s.region.start s.region.end (take d path)
         x_at = x_is ∙ ap (λ (z : Region). owner_along w z.start z.end (take d path)) same
 

@@ -1,5 +1,7 @@
 -- The two halves of a save and of a delete: the leaf's words, and the owner's list with its page's words.
 -- Assumes nothing.
+use Rattle.std.specs.Prelude.{Option, Some}
+use Rattle.std.specs.Option.{unwrap_or}
 use Prim.Native.Nat.{ℕ, suc, ◌+◌, ◌*◌, ◌-◌, ◌≤◌, ◌<◌}
 use mathlib.Core.Path.{◌≡◌, refl, sym, ap, ap₂, ◌∙◌, subst}
 use mathlib.Core.Bool.{Bool, true, false, cond}
@@ -21,7 +23,6 @@ use Rattle.xrtree.specs.Moves.{key_with, put, out, own}
 use Rattle.image.specs.Read.{entries_from}
 use Rattle.image.specs.Decode.{key_words_at}
 use Rattle.image.proofs.Listings.{entries_long}
-use Rattle.owners.specs.Owners.{nobody}
 use Rattle.owners.specs.declared.Spot.{Spot}
 use Rattle.pagewords.specs.Words.{copied_in, entry_words, key_list}
 use Rattle.store.specs.Store.{put_page, put_entry_at, put_key_at, set_fill}
@@ -38,7 +39,7 @@ use Rattle.records.proofs.Marks.{held_ends}
 use Rattle.standing.specs.Stands.{Roomy}
 use Rattle.standing.proofs.Counting.{all_counted}
 use Rattle.entries.specs.Ways.{within, leaf_on, at_leaf, renew}
-use Rattle.entries.specs.Owners.{spot_of, starts_before, entries_before, put_entry, out_entry}
+use Rattle.entries.specs.Owners.{spot_of, starts_before, entries_before, put_entry, out_entry, flag_at}
 use Rattle.entries.specs.Lies.{Lies, Stepped, LeafReady, LeafStep, OwnerReady, ListStep}
 use Rattle.entries.proofs.Holes.{roomy_within}
 use Rattle.entries.proofs.Leafs.{way_of}
@@ -176,36 +177,33 @@ take_leaf_done w w₁ p s i ws without e k is fits st a =
     (omega (arith, out_short s es, ready_fill w p s a, ready_few w p s a)))
 
 -- THE OWNER, where there is one
-nobody_zero : (x : Spot) → x ≡ nobody → x.flag ≡ 0
-nobody_zero x e = ap (λ (y : Spot). y.flag) e
-
-pub owner_at : (w : List ℕ) (x : Spot) (r : Region) (a : OwnerReady w x r) → (x.flag ≡ 0 → ⊥) → Owner r a.h a.t x.page x.key
-owner_at w x r a n = go (owner_of r a.h a.t)
+pub owner_at : (w : List ℕ) (spot : Option Spot) (r : Region) (a : OwnerReady w spot r) (x : Spot) → spot ≡ Some x → Owner r a.h a.t x.page x.key
+owner_at w spot r a x n = go (owner_of r a.h a.t)
   where
     go : Owns r a.h a.t (spot_of r.start r.end a.h a.t) → Owner r a.h a.t x.page x.key
-    go (none e f) = absurd (n (nobody_zero x (a.spot_is ∙ e)))
+    go (none e f) = absurd (omega (arith, ap flag_at (sym n ∙ a.spot_is ∙ e)))
     go (some q i e o) =
-        let z = a.spot_is ∙ e in
-        subst (λ j. Owner r a.h a.t x.page j) (sym (ap (λ (y : Spot). y.key) z)) (subst (λ j. Owner r a.h a.t j i) (sym (ap (λ (y : Spot). y.page) z)) o)
+        let z : x ≡ record { page = q; key = i } = ap (λ (y : Option Spot). unwrap_or y x) (sym n ∙ a.spot_is ∙ e) in
+        subst (λ (y : Spot). Owner r a.h a.t y.page y.key) (sym z) o
 
 -- and where there is none
-pub nobody_done : (w : List ℕ) (x : Spot) (r : Region) (g : List Region → List Region) → x.flag ≡ 0 → (a : OwnerReady w x r) → ListStep w w g r a.h a.t
-nobody_done w x r g z a = go (owner_of r a.h a.t)
+pub nobody_done : (w : List ℕ) (spot : Option Spot) (r : Region) (g : List Region → List Region) → ((x : Spot) → spot ≡ Some x → ⊥) → (a : OwnerReady w spot r) → ListStep w w g r a.h a.t
+nobody_done w spot r g n a = go (owner_of r a.h a.t)
   where
     still : Stepped w w a.h a.t a.t
     still = record { lies = a.lies; place = refl; pages = refl; root = refl; height = refl; shares = refl }
 
     go : Owns r a.h a.t (spot_of r.start r.end a.h a.t) → ListStep w w g r a.h a.t
     go (none e f) = record { places = λ k. []; step = subst (Stepped w w a.h a.t) (sym (f g (λ k. []))) still }
-    go (some q i e o) = absurd (omega (arith, ap (λ (y : Spot). y.flag) (a.spot_is ∙ e)))
+    go (some q i e o) = absurd (n (record { page = q; key = i }) (a.spot_is ∙ e))
 
 used_of : (n : ℕ) (b : Bool) → n ≡ cond b 1 0 → 0 < n → b ≡ true
 used_of n true e l = refl
 used_of n false e l = absurd (omega arith)
 
-module _ (w : List ℕ) (x : Spot) (r : Region) (a : OwnerReady w x r) (n : x.flag ≡ 0 → ⊥) where
+module _ (w : List ℕ) (spot : Option Spot) (r : Region) (a : OwnerReady w spot r) (x : Spot) (n : spot ≡ Some x) where
   abbrev o : Owner r a.h a.t x.page x.key
-  o = owner_at w x r a n
+  o = owner_at w spot r a x n
 
   lies_there : Lies w a.h (within o.around (page_at x.page (o.pre ++ (o.kid, o.key) ∷ o.post) o.last))
   lies_there = subst (Lies w a.h) o.was a.lies
@@ -299,28 +297,28 @@ no_count y = refl
 one_count : (y p : ℕ) → 0 < count y (p ∷ []) → y ≡ p
 one_count y p l = elim (ℕ_discrete y p) [ yes e ↦ e | no e ↦ absurd (omega (arith, count_other y p [] e, no_count y)) ]
 
-module _ (w w₁ w₂ : List ℕ) (x : Spot) (r : Region) (a : OwnerReady w x r) (n : x.flag ≡ 0 → ⊥) (k t : KeyWords)
+module _ (w w₁ w₂ : List ℕ) (spot : Option Spot) (r : Region) (a : OwnerReady w spot r) (x : Spot) (n : spot ≡ Some x) (k t : KeyWords)
     (is : (k.key ≡ get_or (page_of w x.page) (key_word x.key) 0) × (k.start ≡ get_or (page_of w x.page) (key_word x.key + 1) 0)
     × (k.end ≡ get_or (page_of w x.page) (key_word x.key + 2) 0) × (k.head ≡ get_or (page_of w x.page) (key_word x.key + 3) 0))
     (st : w₂ ≡ put_key_at w₁ x.page x.key t) where
   -- SAVE
   pub enter_done : ((key : Key) → KeyHeld w k key → AllUsed w key.places → Came w w₁ key.places (entered_key key r) t) → ListStep w w₂ (put r) r a.h a.t
-  enter_done f = go (f (o w x r a n).key (read_words w x r a n k is) (spot_used w x r a n))
+  enter_done f = go (f (o w spot r a x n).key (read_words w spot r a x n k is) (spot_used w spot r a x n))
     where
-      go : Came w w₁ (o w x r a n).key.places (entered_key (o w x r a n).key r) t → ListStep w w₂ (put r) r a.h a.t
+      go : Came w w₁ (o w spot r a x n).key.places (entered_key (o w spot r a x n).key r) t → ListStep w w₂ (put r) r a.h a.t
       go m =
           let q = m.place in
-          let p = (lies_there w x r a n).records in
-          let free : count q (records w x r a n) ≡ 0 = omega (arith, p.once q m.low m.high, m.uses.counts q m.low m.high, count_same q [], no_count q, used_one w₁ q) in
+          let p = (lies_there w spot r a x n).records in
+          let free : count q (records w spot r a x n) ≡ 0 = omega (arith, p.once q m.low m.high, m.uses.counts q m.low m.high, count_same q [], no_count q, used_one w₁ q) in
           subst (λ v. ListStep w v (put r) r a.h a.t) (sym st)
-          (list_done w x r a n k is w₁ (q ∷ (o w x r a n).key.places) (q ∷ []) [] t (put r) (λ k. front_places r.start k ++ q ∷ back_places r.start k) m.touched
-          (λ y l z. count_other y q (o w x r a n).key.places (λ e. omega (arith, ap (λ i. count i (records w x r a n)) e)) ∙ z)
+          (list_done w spot r a x n k is w₁ (q ∷ (o w spot r a x n).key.places) (q ∷ []) [] t (put r) (λ k. front_places r.start k ++ q ∷ back_places r.start k) m.touched
+          (λ y l z. count_other y q (o w spot r a x n).key.places (λ e. omega (arith, ap (λ i. count i (records w spot r a x n)) e)) ∙ z)
           m.uses
           (λ y. omega (
             arith,
-            count_append y (front_places r.start (o w x r a n).key) (q ∷ back_places r.start (o w x r a n).key),
-            count_append y (q ∷ []) (back_places r.start (o w x r a n).key),
-            parts_count r.start (o w x r a n).key y,
+            count_append y (front_places r.start (o w spot r a x n).key) (q ∷ back_places r.start (o w spot r a x n).key),
+            count_append y (q ∷ []) (back_places r.start (o w spot r a x n).key),
+            parts_count r.start (o w spot r a x n).key y,
             no_count y,
           ))
           (λ y l. let e = one_count y q l in (omega (arith, m.low), omega (arith, m.high)))
@@ -328,15 +326,15 @@ module _ (w w₁ w₂ : List ℕ) (x : Spot) (r : Region) (a : OwnerReady w x r)
 
   -- DELETE
   pub leave_done : ((key : Key) → KeyHeld w k key → AllUsed w key.places → Went w w₁ key r.start t) → ListStep w w₂ (out r.start) r a.h a.t
-  leave_done f = go (f (o w x r a n).key (read_words w x r a n k is) (spot_used w x r a n))
+  leave_done f = go (f (o w spot r a x n).key (read_words w spot r a x n k is) (spot_used w spot r a x n))
     where
-      go : Went w w₁ (o w x r a n).key r.start t → ListStep w w₂ (out r.start) r a.h a.t
+      go : Went w w₁ (o w spot r a x n).key r.start t → ListStep w w₂ (out r.start) r a.h a.t
       go m =
-          let b = back_places r.start (o w x r a n).key in
+          let b = back_places r.start (o w spot r a x n).key in
           subst (λ v. ListStep w v (out r.start) r a.h a.t) (sym st)
-          (list_done w x r a n k is w₁ (o w x r a n).key.places [] (take 1 b) t (out r.start) (λ k. front_places r.start k ++ drop 1 (back_places r.start k)) m.touched
+          (list_done w spot r a x n k is w₁ (o w spot r a x n).key.places [] (take 1 b) t (out r.start) (λ k. front_places r.start k ++ drop 1 (back_places r.start k)) m.touched
           (λ y l z. z) m.uses
-          (λ y. omega (arith, count_append y (front_places r.start (o w x r a n).key) (drop 1 b), parts_count r.start (o w x r a n).key y, first_count b y, no_count y))
+          (λ y. omega (arith, count_append y (front_places r.start (o w spot r a x n).key) (drop 1 b), parts_count r.start (o w spot r a x n).key y, first_count b y, no_count y))
           (λ y l. absurd (omega (arith, no_count y)))
           m.held)
 

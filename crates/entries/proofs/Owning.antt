@@ -1,5 +1,6 @@
 -- The owner of a region: the tree around its page, and what the words of a path say of it.
 -- Assumes nothing.
+use Rattle.std.specs.Prelude.{Option}
 use Prim.Native.Nat.{ℕ, zero, suc, ◌+◌, ◌≤◌}
 use mathlib.Core.Path.{◌≡◌, refl, sym, ap, ◌∙◌, subst}
 use mathlib.Core.Bool.{true, cond}
@@ -24,7 +25,7 @@ use Rattle.entries.specs.Ways.Below.{here, down}
 use Rattle.entries.specs.Owners.{spot_kids, spot_of, inside_from}
 
 -- THE WORDS of a path say the tree's owner
-module _ {A : Type 0} (child : ℕ → A) (w ws : List ℕ) (f : A → Spot) (s e q : ℕ) (l : s ≤ e) where
+module _ {A : Type 0} (child : ℕ → A) (w ws : List ℕ) (f : A → Option Spot) (s e q : ℕ) (l : s ≤ e) where
   kids_spot : (i m : ℕ) → spot_kids f s e q i (kids_from child w ws i m) (child (child_in ws (i + m)))
       ≡ cond (owns_at ws e (i + m) (below_from ws s i m)) (spot_at q (below_from ws s i m)) (f (child (child_in ws (rank_from ws s i m))))
   unfolding spot_kids kids_from below_from rank_from
@@ -66,7 +67,7 @@ module _ (r : Region) {A : Type 0} where
     index : length pre ≡ i
     becomes : (f : A → A) (g : List Region → List Region) (w : Key → List ℕ) → own_kids f g w r cs last ≡ (pre ++ (kid, key_with key.key (w key) (g key.list)) ∷ post, last)
 
-  data Found (cs : List (A × Key)) (last : A) (f : A → Spot) (q i : ℕ) (x : Spot) : Type 0 where
+  data Found (cs : List (A × Key)) (last : A) (f : A → Option Spot) (q i : ℕ) (x : Option Spot) : Type 0 where
     turns : (child : A) → x ≡ f child → Turns cs last child → Found cs last f q i x
     mine : (j : ℕ) → x ≡ spot_at q (i + j) → Mine cs last j → Found cs last f q i x
 
@@ -92,11 +93,11 @@ module _ (r : Region) {A : Type 0} where
         becomes = λ f g w. rw t (ap (λ p. (c ∷ p.0, p.1)) (k.becomes f g w));
       }
 
-  found_next : (c : A × Key) (cs : List (A × Key)) (last : A) (f : A → Spot) (q i : ℕ) (x : Spot) → ltb c.1.key r.start ≡ true → Found cs last f q (suc i) x → Found (c ∷ cs) last f q i x
+  found_next : (c : A × Key) (cs : List (A × Key)) (last : A) (f : A → Option Spot) (q i : ℕ) (x : Option Spot) → ltb c.1.key r.start ≡ true → Found cs last f q (suc i) x → Found (c ∷ cs) last f q i x
   found_next c cs last f q i x t (turns child e k) = turns child e (turn_next c cs last child t k)
   found_next c cs last f q i x t (mine j e k) = let z : suc i + j ≡ i + suc j = omega arith in mine (suc j) (e ∙ ap (spot_at q) z) (mine_next c cs last j t k)
 
-  found_in : (f : A → Spot) (q i : ℕ) (cs : List (A × Key)) (last : A) → Found cs last f q i (spot_kids f r.start r.end q i cs last)
+  found_in : (f : A → Option Spot) (q i : ℕ) (cs : List (A × Key)) (last : A) → Found cs last f q i (spot_kids f r.start r.end q i cs last)
   unfolding spot_kids own_kids
   found_in f q i [] last = turns last refl (record { pre = []; post = at_end; kids = refl; end = refl; becomes = λ f g w. refl })
   found_in f q i (c ∷ cs) last =
@@ -121,11 +122,11 @@ pub record Owner (r : Region) (h : ℕ) (t : Tree h) (q i : ℕ) : Type 0 where
   pub was : t ≡ within around (page_at q (pre ++ (kid, key) ∷ post) last)
   pub becomes : (g : List Region → List Region) (w : Key → List ℕ) → own g w r h t ≡ within around (page_at q (pre ++ (kid, key_with key.key (w key) (g key.list)) ∷ post) last)
 
-pub data Owns (r : Region) (h : ℕ) (t : Tree h) (x : Spot) : Type 0 where
+pub data Owns (r : Region) (h : ℕ) (t : Tree h) (x : Option Spot) : Type 0 where
   none : x ≡ nobody → ((g : List Region → List Region) (w : Key → List ℕ) → own g w r h t ≡ t) → Owns r h t x
   some : (q i : ℕ) → x ≡ spot_at q i → Owner r h t q i → Owns r h t x
 
-page_owns : (r : Region) (h : ℕ) (t : Inner (Tree h)) (child : Tree h) (x : Spot) → Turns r t.kids t.last child → Owns r h child x → Owns r (suc h) t x
+page_owns : (r : Region) (h : ℕ) (t : Inner (Tree h)) (child : Tree h) (x : Option Spot) → Turns r t.kids t.last child → Owns r h child x → Owns r (suc h) t x
 unfolding own within
 page_owns r h t child x k (none e f) =
     none e
@@ -146,7 +147,7 @@ page_owns r h t child x k (some q i e o) =
       becomes = λ g w. ap (λ p. page_at t.place p.0 p.1) (k.becomes (own g w r h) g w) ∙ ap (λ u. fill t.place k.pre k.post u) (o.becomes g w);
     })
 
-found_owns : (r : Region) (h : ℕ) (t : Inner (Tree h)) (x : Spot) → ((c : Tree h) → Owns r h c (spot_of r.start r.end h c))
+found_owns : (r : Region) (h : ℕ) (t : Inner (Tree h)) (x : Option Spot) → ((c : Tree h) → Owns r h c (spot_of r.start r.end h c))
     → Found r t.kids t.last (spot_of r.start r.end h) t.place 0 x → Owns r (suc h) t x
 unfolding own within
 found_owns r h t x ih (turns child e k) = page_owns r h t child x k (subst (Owns r h child) (sym e) (ih child))

@@ -20,7 +20,7 @@ use Rattle.xrtree.proofs.Saved.{own_regions}
 use Rattle.newpages.specs.Pages.{new_entry}
 use Rattle.standing.specs.Stands.{top}
 use Rattle.entries.specs.Ways.{Below, leaf_on, at_leaf, renew}
-use Rattle.entries.specs.Owners.{spot_of, starts_before, put_entry}
+use Rattle.entries.specs.Owners.{spot_of, starts_before, put_entry, flag_at}
 use Rattle.entries.proofs.Holes.{ahead, behind, listed_within}
 use Rattle.entries.proofs.Leafs.{way_of, at_claim}
 use Rattle.entries.proofs.Flagged.{on_tree}
@@ -90,7 +90,7 @@ module _ (s h : ℕ) (t : Tree h) (i : In h 0 top t) (us vs : List Region) (is :
       leaf = unfold listed in refl
 
 module _ (us vs : List Region) (r : Region) (b h : ℕ) (t : Tree h) (part : Part (us ++ vs) h 0 top t) (is : regions h t ≡ us ++ vs) (o : Pairs Over (us ++ vs))
-    (low : All (λ (x : Region). x.start < r.start) us) (high : All (λ (x : Region). r.start < x.start) vs) (fits : Fits top r) (flag : b ≡ (spot_of r.start r.end h t).flag) where
+    (low : All (λ (x : Region). x.start < r.start) us) (high : All (λ (x : Region). r.start < x.start) vs) (fits : Fits top r) (flag : b ≡ flag_at (spot_of r.start r.end h t)) where
   abbrev pub entered : Tree h
   entered = at_leaf (renew (put_entry (new_entry r b))) r.start h t
 

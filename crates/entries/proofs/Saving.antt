@@ -1,7 +1,11 @@
 -- `put_entry` as a whole: what its calls ask is there, and the set with the region stands in the image afterwards.
 -- Assumes nothing.
+use Rattle.std.specs.Prelude.{Option}
 use Prim.Native.Nat.{ℕ, ◌≤◌, ◌<◌}
 use mathlib.Core.Path.{◌≡◌, refl, sym, ap, ◌∙◌, subst}
+use mathlib.Core.Bool.{Bool, true, false, cond}
+use mir.Val.{bool_byte}
+use Rattle.std.specs.Option.{is_some}
 use mathlib.Core.List.{List, [], ◌∷◌, ◌++◌}
 use lib.ListN.{get_or, take}
 use native.Mathlib.Omega.{arith}
@@ -21,7 +25,7 @@ use Rattle.records.specs.Touched.{Room}
 use Rattle.standing.specs.Stands.{top}
 use Rattle.roots.specs.WholeTree.{Whole}
 use Rattle.entries.specs.Ways.{leaf_on, at_leaf, renew}
-use Rattle.entries.specs.Owners.{spot_of, put_entry}
+use Rattle.entries.specs.Owners.{spot_of, put_entry, flag_at}
 use Rattle.entries.specs.Lies.{Lies, Stepped, LeafReady, LeafStep, OwnerReady, ListStep}
 use Rattle.entries.specs.Changed.{OneMore, Grown, Entering, Entered}
 use Rattle.entries.proofs.Stepped.{stepped_then, lies_of, stands_of}
@@ -30,6 +34,11 @@ use Rattle.entries.proofs.Flagged.{spot_same}
 use Rattle.entries.proofs.Putting.{long_put, saved_regions, saved_part}
 use Rattle.entries.proofs.Alongs.{at_along, own_along, along_path}
 use Rattle.entries.proofs.Paths.{path_places, path_fills, path_leaf, path_owner}
+
+-- the flag of the new entry
+pub flag_is : (f : ℕ) (b : Bool) (x : Option Spot) → f ≡ bool_byte b → b ≡ is_some x → f ≡ flag_at x
+flag_is f true x e i = e ∙ ap (λ c. cond {A = ℕ} c 1 0) i
+flag_is f false x e i = e ∙ ap (λ c. cond {A = ℕ} c 1 0) i
 
 -- a region between the earlier and the later ones
 pub pairs_middle : (us vs : List Region) (r : Region) → Pairs Over (us ++ r ∷ vs) → All (λ (x : Region). x.start < r.start) us × All (λ (x : Region). r.start < x.start) vs
@@ -71,15 +80,15 @@ module _ (w path : List ℕ) (r : Region) (s : Entering w path r) (d : ℕ) (dee
   pub put_leaf_asks : LeafReady w (get_or path d 0) r.start × (fill_of (page_of w (get_or path d 0)) ≤ 8)
   put_leaf_asks = (ready, omega (arith, ready_fill w (get_or path d 0) r.start ready, s.fits))
 
-  module _ (x : Spot) (x_is : x ≡ owner_along w r.start r.end (take d path)) where
+  module _ (x : Option Spot) (x_is : x ≡ owner_along w r.start r.end (take d path)) (b : ℕ) (b_is : b ≡ flag_at x) where
     spot : x ≡ spot_of r.start r.end h t
     spot = x_is ∙ path_owner w h t lies s.whole.root path r.start d s.flat s.path_is here r.end (omega (arith, fits.0))
 
     abbrev t₁ : Tree h
-    t₁ = at_leaf (renew (put_entry (new_entry r x.flag))) r.start h t
+    t₁ = at_leaf (renew (put_entry (new_entry r b))) r.start h t
 
-    module _ (w₁ : List ℕ) (leaf : (a : LeafReady w (get_or path d 0) r.start) → LeafStep w w₁ (renew (put_entry (new_entry r x.flag))) r.start a.h a.t) where
-      first : LeafStep w w₁ (renew (put_entry (new_entry r x.flag))) r.start h t
+    module _ (w₁ : List ℕ) (leaf : (a : LeafReady w (get_or path d 0) r.start) → LeafStep w w₁ (renew (put_entry (new_entry r b))) r.start a.h a.t) where
+      first : LeafStep w w₁ (renew (put_entry (new_entry r b))) r.start h t
       first = leaf ready
 
       abbrev owner_ready : OwnerReady w₁ x r
@@ -88,7 +97,7 @@ module _ (w path : List ℕ) (r : Region) (s : Entering w path r) (d : ℕ) (dee
             h = h;
             t = t₁;
             lies = first.step.lies;
-            spot_is = spot ∙ sym (spot_same (renew (put_entry (new_entry r x.flag))) r.start r.end h t);
+            spot_is = spot ∙ sym (spot_same (renew (put_entry (new_entry r b))) r.start r.end h t);
             ends = omega (arith, fits.0);
           }
 
@@ -110,7 +119,7 @@ module _ (w path : List ℕ) (r : Region) (s : Entering w path r) (d : ℕ) (dee
 
         regions_are : regions h t₂ ≡ s.earlier ++ r ∷ s.later
         regions_are =
-            saved_regions s.earlier s.later r x.flag h t s.whole.stands.part s.whole.same old_pairs sides.0 sides.1 fits (ap (λ (y : Spot). y.flag) spot) second.places
+            saved_regions s.earlier s.later r b h t s.whole.stands.part s.whole.same old_pairs sides.0 sides.1 fits (b_is ∙ ap flag_at spot) second.places
 
         root_is : root_of w₂ ≡ place_of h t₂
         root_is = both.root ∙ s.whole.root ∙ sym both.place
@@ -118,7 +127,7 @@ module _ (w path : List ℕ) (r : Region) (s : Entering w path r) (d : ℕ) (dee
         grown_is : Grown r.start h t t₂
         grown_is =
             own_along OneMore (put r) second.places r (omega (arith, fits.0)) h t t₁
-            (at_along OneMore (renew (put_entry (new_entry r x.flag))) r.start h t (refl, refl, long_put (new_entry r x.flag) (leaf_on r.start h t).entries))
+            (at_along OneMore (renew (put_entry (new_entry r b))) r.start h t (refl, refl, long_put (new_entry r b) (leaf_on r.start h t).entries))
 
         pub put_done : Entered w w₂ r s.earlier s.later s.h s.t
         put_done =
@@ -126,7 +135,7 @@ module _ (w path : List ℕ) (r : Region) (s : Entering w path r) (d : ℕ) (dee
               tree = t₂;
               whole = record {
                 stands = stands_of w₂ (s.earlier ++ r ∷ s.later) h t₂ both.lies
-                    (saved_part s.earlier s.later r x.flag h t s.whole.stands.part s.whole.same old_pairs sides.0 sides.1 fits (ap (λ (y : Spot). y.flag) spot) second.places)
+                    (saved_part s.earlier s.later r b h t s.whole.stands.part s.whole.same old_pairs sides.0 sides.1 fits (b_is ∙ ap flag_at spot) second.places)
                     regions_are s.proper;
                 same = regions_are;
                 root = root_is;

@@ -40,8 +40,8 @@ before_on ws x n i k c l e h =
     at_entry : (m : ℕ) → get_or ws (entry_word i) 0 < x → length (take_while (starts_before x) (entries_from ws i (suc m))) ≡ suc (length (take_while (starts_before x) (entries_from ws (suc i) m)))
     at_entry m u = unfold entries_from take_while in rw (lt_yes (get_or ws (entry_word i) 0) x u)
 
-pub before_end : (ws : List ℕ) (x n i : ℕ) → Before ws x n i → n ≤ i → i ≡ entries_before ws x
-before_end ws x n i c l = let v : n - i ≡ 0 = omega arith in omega (arith, rw v at c.whole, none)
+pub before_end : (ws : List ℕ) (x n i : ℕ) → Before ws x n i → n ≤ i → n ≡ entries_before ws x
+before_end ws x n i c l = let v : n - i ≡ 0 = omega arith in omega (arith, c.most, rw v at c.whole, none)
   where
     none : length (take_while (starts_before x) (entries_from ws i 0)) ≡ 0
     none = unfold entries_from take_while in refl

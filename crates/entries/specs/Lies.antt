@@ -1,6 +1,6 @@
 -- A tree in the words, and what the two halves of a save or delete leave of it: the step on the leaf, and the step on the owner's list.
 -- Assumes nothing.
-use Rattle.std.specs.Prelude.{ℕ, ◌≤◌, ◌≡◌, List, length, T}
+use Rattle.std.specs.Prelude.{ℕ, ◌≤◌, ◌≡◌, Option, List, length, T}
 use Rattle.regions.specs.declared.Region.{Region}
 use Rattle.pages.specs.Layout.{root_of, height_of, shares_of, page_used, record_used, image_words, page_count, record_count}
 use Rattle.xrtree.specs.Tree.{Key, Leaf, Tree, leaves, page_places, record_places}
@@ -43,7 +43,7 @@ pub record LeafStep (w w' : List ℕ) (f : Leaf → Leaf) (s h : ℕ) (t : Tree 
   pub used : (q : ℕ) → record_used w' q ≡ record_used w q
 
 -- THE OWNER of r, if there is one, stands at a spot
-pub record OwnerReady (w : List ℕ) (x : Spot) (r : Region) : Type 0 where
+pub record OwnerReady (w : List ℕ) (x : Option Spot) (r : Region) : Type 0 where
   pub h : ℕ
   pub t : Tree h
   pub lies : Lies w h t

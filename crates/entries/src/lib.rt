@@ -19,15 +19,13 @@ fn entries_before(img: &[u32], leaf: u32, x: u32) -> usize
     requires { fill_of (page_of img.now leaf) ≤ 9 }
     ensures { result ≡ entries_before (page_of img.now leaf) x }
 {
-    let n = words::wide(pages::fill(img, leaf));
-    let mut i: usize = 0;
-    while i < n {
+    let n = pages::fill(img, leaf) as usize;
+    for i in 0..n {
         if x <= pages::entry_start(img, leaf, i) {
             return i;
         }
-        i += 1;
     }
-    i
+    n
 }
 
 // The entry of r into its leaf, by its start: the entries behind move one place on within the page, each with its spare word.
@@ -38,7 +36,7 @@ fn put_leaf(img: &mut [u32], leaf: u32, r: Region, flag: u32)
     let i = entries_before(img, leaf, r.start);
     let n = pages::fill(img, leaf);
     let gap = pages::page_at(leaf) + pages::entry_word(i);
-    let run = pages::ENTRY_WIDTH * (words::wide(n) - i);
+    let run = pages::ENTRY_WIDTH * (n as usize - i);
     store::move_up(img, gap, run, pages::ENTRY_WIDTH);
     store::put_entry(img, leaf, i, r, flag);
     store::set_fill(img, leaf, n + 1);
@@ -55,33 +53,27 @@ fn take_leaf(img: &mut [u32], leaf: u32, start: u32, i: usize)
 }
 
 // The record of r into its owner's list, where it has an owner.
-fn enter_owner(img: &mut [u32], at: Spot, r: Region)
+fn enter_owner(img: &mut [u32], at: Option<Spot>, r: Region)
     requires { OwnerReady img.old at r × Room img.old }
     ensures { (s : OwnerReady img.old at r) → ListStep img.old img.new (put r) r s.h s.t }
 {
-    if at.flag == 0 {
-        return;
+    if let Some(Spot { page, key }) = at {
+        let k = pages::key_words(img, page, key);
+        let entered = records::enter(img, k, r);
+        store::put_key(img, page, key, entered);
     }
-    let p = at.page;
-    let i = at.key;
-    let k = pages::key_words(img, p, i);
-    let entered = records::enter(img, k, r);
-    store::put_key(img, p, i, entered);
 }
 
 // The record of r out of its owner's list.
-fn leave_owner(img: &mut [u32], at: Spot, r: Region)
+fn leave_owner(img: &mut [u32], at: Option<Spot>, r: Region)
     requires { OwnerReady img.old at r }
     ensures { (s : OwnerReady img.old at r) → ListStep img.old img.new (out r.start) r s.h s.t }
 {
-    if at.flag == 0 {
-        return;
+    if let Some(Spot { page, key }) = at {
+        let k = pages::key_words(img, page, key);
+        let left = records::leave(img, k, r.start);
+        store::put_key(img, page, key, left);
     }
-    let p = at.page;
-    let i = at.key;
-    let k = pages::key_words(img, p, i);
-    let left = records::leave(img, k, r.start);
-    store::put_key(img, p, i, left);
 }
 
 // SAVE: the region into its leaf and into its owner's list. The leaf may hold nine entries then.
@@ -92,7 +84,7 @@ pub fn put_entry(img: &mut [u32], path: [u32; 4], r: Region)
     let d = path::depth(img);
     let leaf = path[d];
     let at = owners::owner(img, path, d, r.start, r.end);
-    put_leaf(img, leaf, r, at.flag);
+    put_leaf(img, leaf, r, u32::from(at.is_some()));
     enter_owner(img, at, r);
 }
 

@@ -2,7 +2,7 @@
 // (or a change request: C-15, on levels; C-17, with self), and has a line: its name, and `right`, or `wrong` with what came out and what should have.
 #![tactic(auto)]
 
-use regions::{Choice, Kind, Region, Seat};
+use regions::{Choice, Kind, Refusal, Region, Seat};
 use std::io;
 
 // An example's line.
@@ -18,32 +18,39 @@ fn check(rt: &impl Print, name: &[u8], got: usize, expected: usize) -> io::Resul
     console::text(rt, b"\n")
 }
 
+// The number that a call is told by.
+fn told(answer: Result<(), Refusal>) -> usize {
+    regions::number_told(answer) as usize
+}
+
 // Opens a set in which account 0 has a share, and the others none.
 fn open(img: &mut [u32], share: u32) -> usize {
-    let mut shares = [0u32; 16];
+    let mut shares = [0u32; regions::ACCOUNT_COUNT];
     shares[0] = share;
-    words::wide(index::open_set(img, shares))
+    told(index::open_set(img, shares))
 }
 
 // Saves a region of account 0.
 fn save(img: &mut [u32], start: u32, end: u32, level: u32, reference: u32) -> usize {
     let r = Region {
-        start: start,
-        end: end,
-        level: level,
-        reference: reference,
+        start,
+        end,
+        level,
+        reference,
     };
-    words::wide(index::save(img, 0, r))
+    told(index::save(img, 0, r))
 }
 
 fn delete(img: &mut [u32], start: u32) -> usize {
-    words::wide(index::delete(img, 0, start))
+    told(index::delete(img, 0, start))
 }
 
 fn around(img: &[u32], p: u32, choice: Choice) -> usize {
     let mut out = [0u32; 64];
-    let r = queries::find_ancestors(img, 0, p, choice, &mut out);
-    r.total
+    match queries::find_ancestors(img, 0, p, choice, &mut out) {
+        Ok(found) => found.total,
+        Err(_) => 0,
+    }
 }
 
 fn ancestors(img: &[u32], p: u32) -> usize {
@@ -141,8 +148,7 @@ fn full_account(rt: &impl Print, outer: &mut [u32]) -> io::Result<()> {
 }
 
 fn join_by(outer: &[u32], inner: &[u32], kind: Kind, out: &mut [u32]) -> usize {
-    let r = queries::join_sets(outer, inner, 0, kind, out);
-    r.total
+    queries::join_sets(outer, inner, 0, kind, out).unwrap_or(0)
 }
 
 fn join(outer: &[u32], inner: &[u32], out: &mut [u32]) -> usize {
@@ -152,12 +158,10 @@ fn join(outer: &[u32], inner: &[u32], out: &mut [u32]) -> usize {
 // How many of the first eight pairs have their d at a start.
 fn pairs_of(out: &[u32], start: u32) -> usize {
     let mut n: usize = 0;
-    let mut i: usize = 0;
-    while i < 8 {
+    for i in 0..8 {
         if words::word(out, 4 * i + 2) == start {
             n += 1;
         }
-        i += 1;
     }
     n
 }
@@ -175,45 +179,28 @@ fn bench_join(rt: &impl Print, outer: &[u32], inner: &[u32]) -> io::Result<()> {
 
 // The desk with seat 0 open for account 0's ancestor join, at limit 3.
 fn open_desk() -> [Seat; regions::SEAT_COUNT] {
-    let s = regions::closed_seat();
-    let seats = [s; regions::SEAT_COUNT];
-    let d = desk::open_desk_by_value(seats);
-    let desk = d.seats;
-    let kind = Kind::Ancestor;
-    let o = desk::open_seat_by_value(desk, 0, 0, kind, 3);
-    o.seats
+    let mut seats = [regions::closed_seat(); regions::SEAT_COUNT];
+    told(desk::open_desk(&mut seats));
+    told(desk::open_seat(&mut seats, 0, 0, Kind::Ancestor, 3));
+    seats
 }
 
-// A round: the seats as it leaves them, and what seat 0 was handed.
-#[derive(Clone, Copy)]
-struct Served {
-    seats: [Seat; regions::SEAT_COUNT],
-    handed: usize,
-}
-
-fn serve(outer: &[u32], inner: &[u32], seats: [Seat; regions::SEAT_COUNT]) -> Served {
+// A round, and what seat 0 was handed in it.
+fn serve(outer: &[u32], inner: &[u32], seats: &mut [Seat]) -> usize {
     let mut buffer = [0u32; regions::BUFFER_WORDS];
-    let r = desk::round_by_value(outer, inner, seats, &mut buffer);
-    let counts = r.counts;
-    let s = r.seats;
-    Served {
-        seats: s,
-        handed: words::wide(counts[0]),
+    match desk::round(outer, inner, seats, &mut buffer) {
+        Ok(counts) => counts[0] as usize,
+        Err(_) => 0,
     }
 }
 
 fn bench_rounds(rt: &impl Print, outer: &[u32], inner: &[u32]) -> io::Result<()> {
-    let first = serve(outer, inner, open_desk());
-    check(rt, b"handed in round 1 at limit 3", first.handed, 3)?;
-    let seats = first.seats;
-    let second = serve(outer, inner, seats);
-    check(rt, b"handed in round 2", second.handed, 3)?;
-    let later = second.seats;
-    let third = serve(outer, inner, later);
-    check(rt, b"handed in round 3", third.handed, 2)?;
-    let last = third.seats;
-    let fourth = serve(outer, inner, last);
-    check(rt, b"handed in round 4", fourth.handed, 0)
+    let mut seats = open_desk();
+    let first = serve(outer, inner, &mut seats);
+    check(rt, b"handed in round 1 at limit 3", first, 3)?;
+    check(rt, b"handed in round 2", serve(outer, inner, &mut seats), 3)?;
+    check(rt, b"handed in round 3", serve(outer, inner, &mut seats), 2)?;
+    check(rt, b"handed in round 4", serve(outer, inner, &mut seats), 0)
 }
 
 // Algorithm 6 would stop where the outer list ends, and lose the second pair.
@@ -226,17 +213,17 @@ fn outer_list_ends(rt: &impl Print, outer: &mut [u32], inner: &mut [u32]) -> io:
     let mut out = [0u32; 32];
     let total = join(outer, inner, &mut out);
     check(rt, b"pairs behind the outer list's end", total, 2)?;
-    check(rt, b"the second pair's d", words::wide(out[6]), 4)
+    check(rt, b"the second pair's d", out[6] as usize, 4)
 }
 
 // Algorithm 5 would go from the higher key down; the answer runs from outermost to innermost.
 fn outermost_first(rt: &impl Print, outer: &mut [u32]) -> io::Result<()> {
     open_outer(outer, 10);
     let mut out = [0u32; 12];
-    queries::find_ancestors(outer, 0, 35, Choice::Strict, &mut out);
-    check(rt, b"the first ancestor of 35", words::wide(out[0]), 10)?;
-    check(rt, b"the second", words::wide(out[4]), 20)?;
-    check(rt, b"the third", words::wide(out[8]), 30)
+    let _ = queries::find_ancestors(outer, 0, 35, Choice::Strict, &mut out); // what it wrote tells
+    check(rt, b"the first ancestor of 35", out[0] as usize, 10)?;
+    check(rt, b"the second", out[4] as usize, 20)?;
+    check(rt, b"the third", out[8] as usize, 30)
 }
 
 // Two traps of the source: a region that starts at the position is not its ancestor, and a walk along the leaves has to stop behind the last one.
@@ -244,8 +231,11 @@ fn leaf_ends(rt: &impl Print, outer: &mut [u32]) -> io::Result<()> {
     open_outer(outer, 10);
     check(rt, b"ancestors of a start", ancestors(outer, 60), 1)?;
     let mut out = [0u32; 64];
-    let d = queries::find_descendants(outer, 0, 5, 1000, 0, &mut out);
-    check(rt, b"descendants up to the last leaf's end", d.count, 4)
+    let count = match queries::find_descendants(outer, 0, 5, 1000, 0, &mut out) {
+        Ok(listed) => listed.count,
+        Err(_) => 0,
+    };
+    check(rt, b"descendants up to the last leaf's end", count, 4)
 }
 
 // With self a region that starts at the position is listed too, as the last, but none that ends there; and a set joined with itself has each region with all around it.
@@ -266,18 +256,16 @@ fn with_self(rt: &impl Print, outer: &mut [u32]) -> io::Result<()> {
     let mut out = [0u32; 32];
     let total = join_by(outer, outer, Kind::AncestorOrSelf, &mut out);
     check(rt, b"pairs of a set with itself", total, 8)?;
-    check(rt, b"the last pair's a", words::wide(out[28]), 60)?;
-    check(rt, b"the last pair's d", words::wide(out[30]), 60)
+    check(rt, b"the last pair's a", out[28] as usize, 60)?;
+    check(rt, b"the last pair's d", out[30] as usize, 60)
 }
 
 // One region around a row of forty, whose leaves make keys that stab it.
 fn open_row(img: &mut [u32]) {
     open(img, 50);
     save(img, 1, 1000, 1, 100);
-    let mut i: u32 = 0;
-    while i < 40 {
+    for i in 0..40 {
         save(img, 10 + 20 * i, 20 + 20 * i, 2, i);
-        i += 1;
     }
 }
 
@@ -285,13 +273,11 @@ fn open_row(img: &mut [u32]) {
 fn keys_go(rt: &impl Print, img: &mut [u32]) -> io::Result<()> {
     open_row(img);
     let mut found: usize = 0;
-    let mut i: u32 = 0;
-    while i < 40 {
+    for i in 0..40 {
         delete(img, 10 + 20 * i);
         if ancestors(img, 10 + 20 * i) == 1 {
             found += 1;
         }
-        i += 1;
     }
     check(rt, b"found while its keys go", found, 40)
 }

@@ -14,10 +14,7 @@ use regions::Region;
 fn lies_between(r: Region, low: usize, high: usize) -> bool
     ensures { result ≡ between low high r }
 {
-    if words::wide(r.start) < low {
-        return false;
-    }
-    words::wide(r.end) < high
+    low <= r.start as usize && (r.end as usize) < high
 }
 
 // An entry's flag is 0 where no key stabs its region: where the region lies between the keys around its leaf.
@@ -27,9 +24,10 @@ fn flag_right(img: &[u32], p: u32, i: usize, low: usize, high: usize) -> bool
 {
     let flag = pages::entry_flag(img, p, i);
     if lies_between(pages::entry_region(img, p, i), low, high) {
-        return flag == 0;
+        flag == 0
+    } else {
+        flag == 1
     }
-    flag == 1
 }
 
 // All flags of a leaf.
@@ -37,13 +35,6 @@ pub fn flags_right(img: &[u32], p: u32, low: usize, high: usize) -> bool
     requires { Fills 0 img.now p }
     ensures { result ≡ all (flag_here low high) (entries_from (page_of img.now p) 0 (fill_of (page_of img.now p))) }
 {
-    let n = words::wide(pages::fill(img, p));
-    let mut i = 0;
-    while i < n {
-        if !flag_right(img, p, i, low, high) {
-            return false;
-        }
-        i += 1;
-    }
-    true
+    let n = pages::fill(img, p) as usize;
+    (0..n).all(|i| flag_right(img, p, i, low, high))
 }

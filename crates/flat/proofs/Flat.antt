@@ -1,9 +1,10 @@
 -- Seats in numbers: what the small functions make, and that a seat told in numbers is read back as it was.
 -- Assumes nothing.
-use Prim.Native.Nat.{ℕ}
+use Prim.Native.Nat.{ℕ, ◌<◌}
 use mathlib.Core.Path.{◌≡◌, sym, ap, ◌∙◌, refl}
 use mathlib.Core.List.{List, [], ◌∷◌, map}
-use lib.ListN.{length, get_or}
+use lib.ListN.{length, get_or, length-map, get_or-map}
+use lib.Seq.{ext_get_or}
 use native.Mathlib.Omega.{arith}
 use Rattle.regions.specs.declared.Mark.{Mark}
 use Rattle.regions.specs.declared.Open.{Open}
@@ -23,28 +24,11 @@ flat_at o k m kind mark =
     ap (λ (x : ℕ). flat_marked o.account x o.limit m) kind ∙
     ap (λ (y : Mark). flat_marked o.account (kind_number o.kind) o.limit y) (sym mark)
 
--- EIGHT AT A TIME: what a function makes of each of eight is what it makes of the list
-pub eight : {A B : Type 0} (f : A → B) (d : A) (xs : List A) {b0 b1 b2 b3 b4 b5 b6 b7 : B}
-    → length xs ≡ 8
-    → b0 ≡ f (get_or xs 0 d)
-    → b1 ≡ f (get_or xs 1 d)
-    → b2 ≡ f (get_or xs 2 d)
-    → b3 ≡ f (get_or xs 3 d)
-    → b4 ≡ f (get_or xs 4 d)
-    → b5 ≡ f (get_or xs 5 d)
-    → b6 ≡ f (get_or xs 6 d)
-    → b7 ≡ f (get_or xs 7 d)
-    → b0 ∷ b1 ∷ b2 ∷ b3 ∷ b4 ∷ b5 ∷ b6 ∷ b7 ∷ [] ≡ map f xs
-eight f d [] n e0 e1 e2 e3 e4 e5 e6 e7 = absurd (omega (arith, n))
-eight f d (x0 ∷ []) n e0 e1 e2 e3 e4 e5 e6 e7 = absurd (omega (arith, n))
-eight f d (x0 ∷ x1 ∷ []) n e0 e1 e2 e3 e4 e5 e6 e7 = absurd (omega (arith, n))
-eight f d (x0 ∷ x1 ∷ x2 ∷ []) n e0 e1 e2 e3 e4 e5 e6 e7 = absurd (omega (arith, n))
-eight f d (x0 ∷ x1 ∷ x2 ∷ x3 ∷ []) n e0 e1 e2 e3 e4 e5 e6 e7 = absurd (omega (arith, n))
-eight f d (x0 ∷ x1 ∷ x2 ∷ x3 ∷ x4 ∷ []) n e0 e1 e2 e3 e4 e5 e6 e7 = absurd (omega (arith, n))
-eight f d (x0 ∷ x1 ∷ x2 ∷ x3 ∷ x4 ∷ x5 ∷ []) n e0 e1 e2 e3 e4 e5 e6 e7 = absurd (omega (arith, n))
-eight f d (x0 ∷ x1 ∷ x2 ∷ x3 ∷ x4 ∷ x5 ∷ x6 ∷ []) n e0 e1 e2 e3 e4 e5 e6 e7 = absurd (omega (arith, n))
-eight f d (x0 ∷ x1 ∷ x2 ∷ x3 ∷ x4 ∷ x5 ∷ x6 ∷ x7 ∷ []) n e0 e1 e2 e3 e4 e5 e6 e7 = rw (e0, e1, e2, e3, e4, e5, e6, e7)
-eight f d (x0 ∷ x1 ∷ x2 ∷ x3 ∷ x4 ∷ x5 ∷ x6 ∷ x7 ∷ x8 ∷ xs) n e0 e1 e2 e3 e4 e5 e6 e7 = absurd (omega (arith, n))
+-- EIGHT AT A TIME: what a function makes of each of some is what it makes of the list
+pub mapped : {A B : Type 0} (f : A → B) (d : A) (xs : List A) (ys : List B) (n : ℕ) → length xs ≡ n → length ys ≡ n
+    → ((i : ℕ) → i < n → get_or ys i (f d) ≡ f (get_or xs i d)) → ys ≡ map f xs
+mapped f d xs ys n e k each =
+    ext_get_or (f d) ys (map f xs) (k ∙ sym (length-map xs f ∙ e)) (λ i h. each i (omega arith) ∙ sym (get_or-map f xs i d))
 
 -- A SEAT TOLD IN NUMBERS IS READ BACK AS IT WAS
 pub kind_back : (k : Kind) → kind_of (kind_number k) ≡ k

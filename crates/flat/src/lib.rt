@@ -1,4 +1,5 @@
 // A seat and a desk in plain numbers, as they go over the border to C and Rust and back.
+// Kinds, choices and refusals are numbers here, and flags stand beside values: the C interface.
 #![tactic(auto)]
 
 ghost use Rattle.std.specs.Prelude.{◌≡◌, map};
@@ -66,16 +67,14 @@ pub fn seat_of_numbers(
     if opened == 0 {
         return regions::closed_seat();
     }
-    let of = kind_of(kind);
-    let mark = mark_of(marked, a, d);
-    let o = Open {
-        account: account,
-        kind: of,
-        limit: limit,
-        mark: mark,
-    };
-    let st = State::Open(o);
-    Seat { state: st }
+    Seat {
+        state: State::Open(Open {
+            account,
+            kind: kind_of(kind),
+            limit,
+            mark: mark_of(marked, a, d),
+        }),
+    }
 }
 
 // A seat in numbers. Closed where opened is 0, and then the others mean nothing; without a mark where marked is 0, and then a and d mean nothing.
@@ -98,37 +97,29 @@ pub struct FlatDesk {
 }
 
 // The seat that seven numbers mean.
-fn seat_of(f: FlatSeat) -> Seat
-    ensures { result ≡ seat_of f }
-{
-    seat_of_numbers(f.opened, f.account, f.kind, f.limit, f.marked, f.a, f.d)
+impl From<FlatSeat> for Seat {
+    ghost from_gives = { λ f s. s ≡ seat_of f };
+
+    fn from(f: FlatSeat) -> Seat {
+        seat_of_numbers(f.opened, f.account, f.kind, f.limit, f.marked, f.a, f.d)
+    }
 }
 
 pub fn seats_of(f: [FlatSeat; regions::SEAT_COUNT]) -> [Seat; regions::SEAT_COUNT]
     ensures { result ≡ map seat_of f }
 {
-    let s0 = seat_of(f[0]);
-    let s1 = seat_of(f[1]);
-    let s2 = seat_of(f[2]);
-    let s3 = seat_of(f[3]);
-    let s4 = seat_of(f[4]);
-    let s5 = seat_of(f[5]);
-    let s6 = seat_of(f[6]);
-    let s7 = seat_of(f[7]);
-    [s0, s1, s2, s3, s4, s5, s6, s7]
+    f.map(|s| Seat::from(s))
 }
 
 fn flat_open(o: Open) -> FlatSeat
     ensures { result ≡ flat_open o }
 {
-    let k = o.kind;
-    let kind = kind_number(k);
-    let m = o.mark;
-    match m {
+    let kind = kind_number(o.kind);
+    match o.mark {
         Mark::Fresh => FlatSeat {
             opened: 1,
             account: o.account,
-            kind: kind,
+            kind,
             limit: o.limit,
             marked: 0,
             a: 0,
@@ -137,47 +128,41 @@ fn flat_open(o: Open) -> FlatSeat
         Mark::Last(a, d) => FlatSeat {
             opened: 1,
             account: o.account,
-            kind: kind,
+            kind,
             limit: o.limit,
             marked: 1,
-            a: a,
-            d: d,
+            a,
+            d,
         },
     }
 }
 
 // The seven numbers of a seat; a closed one's are 0.
-fn flat_seat(s: Seat) -> FlatSeat
-    ensures { result ≡ flat_seat s }
-{
-    let st = s.state;
-    match st {
-        State::Closed => FlatSeat {
-            opened: 0,
-            account: 0,
-            kind: 0,
-            limit: 0,
-            marked: 0,
-            a: 0,
-            d: 0,
-        },
-        State::Open(o) => flat_open(o),
+impl From<Seat> for FlatSeat {
+    ghost from_gives = { λ s f. f ≡ flat_seat s };
+
+    fn from(s: Seat) -> FlatSeat {
+        match s.state {
+            State::Closed => FlatSeat {
+                opened: 0,
+                account: 0,
+                kind: 0,
+                limit: 0,
+                marked: 0,
+                a: 0,
+                d: 0,
+            },
+            State::Open(o) => flat_open(o),
+        }
     }
 }
 
 pub fn flat_desk(seats: [Seat; regions::SEAT_COUNT]) -> FlatDesk
     ensures { result.seats ≡ map flat_seat seats }
 {
-    let f0 = flat_seat(seats[0]);
-    let f1 = flat_seat(seats[1]);
-    let f2 = flat_seat(seats[2]);
-    let f3 = flat_seat(seats[3]);
-    let f4 = flat_seat(seats[4]);
-    let f5 = flat_seat(seats[5]);
-    let f6 = flat_seat(seats[6]);
-    let f7 = flat_seat(seats[7]);
-    let fs = [f0, f1, f2, f3, f4, f5, f6, f7];
-    FlatDesk { seats: fs }
+    FlatDesk {
+        seats: seats.map(|s| FlatSeat::from(s)),
+    }
 }
 
 // The desk that a call hands back: the one given where it is refused.

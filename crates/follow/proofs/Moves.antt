@@ -7,6 +7,8 @@ use mathlib.Core.List.{List, [], ◌∷◌, ◌++◌}
 use lib.Dec.{ltb}
 use lib.ListN.{length}
 use native.Mathlib.Omega.{arith}
+use Rattle.std.specs.declared.option.Option.{Option}
+use Rattle.std.specs.declared.option.Option.TheVariants.{None, Some}
 use Rattle.words.specs.Lists.{filter, All}
 use Rattle.words.proofs.Tests.{lt_of, nlt_of}
 use Rattle.words.proofs.Listed.{all_mono, filter_none}
@@ -24,8 +26,6 @@ use Rattle.answers.specs.Items.{written_from}
 use Rattle.answers.proofs.Items.{from_first, from_long}
 use Rattle.leaves.specs.declared.Entry.{Entry}
 use Rattle.leaves.specs.declared.Cursor.{Cursor}
-use Rattle.leaves.specs.declared.Step.{Step}
-use Rattle.leaves.specs.declared.Step.TheVariants.{Next, End}
 use Rattle.leaves.specs.Cursors.{step_from, start_faced}
 use Rattle.leaves.specs.Faces.{Faces}
 use Rattle.leaves.proofs.Faces.{faces_on, faces_end, faced_is}
@@ -103,7 +103,7 @@ module _ {w : List ℕ} {z p : ℕ} {held : List ℕ} {t : Stack} (b : Behind w 
       }
 
 -- ENTRY BY ENTRY. The start that is faced comes in time to hold p, or too late
-module _ (ch : Choice) (p s : ℕ) (b : Bool) (st : Step) (e : s ≡ start_faced st) (t : b ≡ ltb s (too_late ch p)) where
+module _ (ch : Choice) (p s : ℕ) (b : Bool) (st : Option (Entry × Cursor)) (e : s ≡ start_faced st) (t : b ≡ ltb s (too_late ch p)) where
   pub in_time : b ≡ true → start_faced st < too_late ch p
   in_time h = omega (arith, lt_of s (too_late ch p) (sym t ∙ h))
 
@@ -119,10 +119,10 @@ module _ {w : List ℕ} {z p : ℕ} {held : List ℕ} {n : ℕ} {c : Cursor} (k 
         faces = subst (λ (l : List Region). Faces w c l) (come_same k.at z p (set_of w).regions up k.far h) k.faces;
       }
 
-  pub coming_end : step_from w c ≡ End → Placed w z p held (record { n = n; cur = c })
+  pub coming_end : step_from w c ≡ None → Placed w z p held (record { n = n; cur = c })
   coming_end s = arrived (rw (faces_end w c _ k.faces s) tt)
 
-  module _ (e : Entry) (on : Cursor) (s : step_from w c ≡ Next e on) where
+  module _ (e : Entry) (on : Cursor) (s : step_from w c ≡ Some (e, on)) where
     abbrev pub rest : List Region
     rest = (faces_on w c _ e on k.faces s).rest
 
@@ -158,6 +158,6 @@ module _ {w : List ℕ} {z p : ℕ} {held : List ℕ} {n : ℕ} {c : Cursor} (k 
   pub coming_there : z ≤ start_faced (step_from w c) → Placed w z p held (record { n = n; cur = c })
   coming_there l = go (step_from w c) refl
     where
-      go : (s : Step) → step_from w c ≡ s → Placed w z p held (record { n = n; cur = c })
-      go End s = coming_end s
-      go (Next e on) s = coming_stop e on s (omega (arith, faced_is (step_from w c) e on s))
+      go : (s : Option (Entry × Cursor)) → step_from w c ≡ s → Placed w z p held (record { n = n; cur = c })
+      go None s = coming_end s
+      go (Some (e, on)) s = coming_stop e on s (omega (arith, faced_is (step_from w c) e on s))

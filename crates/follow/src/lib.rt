@@ -9,7 +9,7 @@ ghost use Rattle.image.specs.Valid.{valid};
 ghost use Rattle.stack.specs.Stacks.{held_words};
 ghost use Rattle.follow.specs.Places.{Placed, Behind, Coming};
 
-use leaves::{Cursor, Step};
+use leaves::Cursor;
 use regions::{Choice, Mark};
 
 // The outer regions that hold a place, as words beside it: how many, and the cursor at the first that starts too late to hold the place.
@@ -21,26 +21,14 @@ pub struct Stack {
 
 // Whether the last entry of a leaf starts before p. It says only which way to p is the shorter one: either answer is right.
 pub fn is_far(img: &[u32], leaf: u32, p: u32) -> bool {
-    let n = pages::fill(img, leaf);
-    if n == 0 {
-        return false;
-    }
-    if 8 < n {
-        return false;
-    }
-    pages::entry_start(img, leaf, words::wide(n - 1)) < p
+    let n = pages::fill(img, leaf) as usize;
+    n != 0 && n <= 8 && pages::entry_start(img, leaf, n - 1) < p
 }
 
 // Whether a search leads to p sooner than the entries do, from one that ends at `end` in that leaf: not where it holds p, nor where p's place is in this leaf or the next.
 // A search looks into every page of its path: by count it costs as much as some eleven entries.
 fn is_over(outer: &[u32], leaf: u32, end: u32, p: u32) -> bool {
-    if p < end {
-        return false;
-    }
-    if !is_far(outer, leaf, p) {
-        return false;
-    }
-    is_far(outer, pages::next_leaf(outer, leaf), p)
+    end <= p && is_far(outer, leaf, p) && is_far(outer, pages::next_leaf(outer, leaf), p)
 }
 
 // The stack at p, by one descent: the ancestors along p's path, and the cursor in the leaf where it ends.
@@ -50,8 +38,7 @@ fn refill(outer: &[u32], held: &mut [u32], choice: Choice, p: u32) -> Stack
     ensures { Placed outer.now (too_late choice p) p held.new result }
 {
     let way = path::descend(outer, p);
-    let t = search::ancestors_along(outer, way, choice, p, held);
-    let n = t.total;
+    let n = search::ancestors_along(outer, way, choice, p, held).total;
     let cur = leaves::seek_along(outer, way, choice, p);
     Stack { n, cur }
 }
@@ -82,26 +69,23 @@ pub fn begin(
 
 // On to p: entry by entry, and where one that does not hold p stands leaves before it, by one descent. Most often the entry faced starts too late: only its start is
 // read then.
-fn catch_up(outer: &[u32], held: &mut [u32], choice: Choice, s: Stack, p: u32) -> Stack
+fn catch_up(outer: &[u32], held: &mut [u32], choice: Choice, mut s: Stack, p: u32) -> Stack
     requires outer_valid { T (valid outer.now) }
     requires coming { Coming outer.now (too_late choice p) p held.old s }
     ensures { Placed outer.now (too_late choice p) p held.new result }
 {
-    let mut n = s.n;
-    let mut cur = s.cur;
-    while regions::in_time(choice, p, cur.start(outer)) {
-        let step = cur.step(outer);
-        let Step::Next(entry, on) = step else {
-            return Stack { n, cur };
+    // No index: it follows the leaves' links, as far as the starts come in time.
+    while regions::in_time(choice, p, s.cur.start(outer)) {
+        let Some((entry, cur)) = s.cur.step(outer) else {
+            break;
         };
-        let a = entry.region;
-        if is_over(outer, cur.leaf, a.end, p) {
+        if is_over(outer, s.cur.leaf, entry.region.end, p) {
             return refill(outer, held, choice, p);
         }
-        n = stack::push(held, n, a, p);
-        cur = on;
+        let n = stack::push(held, s.n, entry.region, p);
+        s = Stack { n, cur };
     }
-    Stack { n, cur }
+    s
 }
 
 // The stack from one place to the next.
@@ -111,6 +95,5 @@ pub fn follow(outer: &[u32], held: &mut [u32], choice: Choice, s: Stack, p: u32)
     ensures { Placed outer.now (too_late choice p) p held.new result }
 {
     let n = stack::pop_ended(held, s.n, p);
-    let cur = s.cur;
-    catch_up(outer, held, choice, Stack { n, cur }, p)
+    catch_up(outer, held, choice, Stack { n, ..s }, p)
 }

@@ -1,3 +1,4 @@
 pub mod Form
 pub mod Readers
 pub mod Steps
+pub mod Told

@@ -1,6 +1,6 @@
 -- What each reader of a line promises: a place in the bytes stands for the lines from there on.
 -- Assumes nothing.
-use Rattle.std.specs.Prelude.{ℕ, ◌<◌, ◌≤◌, ◌≡◌, Bool, true, List, length, drop}
+use Rattle.std.specs.Prelude.{ℕ, ◌<◌, ◌≤◌, ◌≡◌, true, false, List, length, drop}
 use Rattle.regions.specs.Limits.{last_account}
 use Rattle.regions.specs.declared.Region.{Region}
 use Rattle.lines.specs.Text.{lines_of, first_of, rest_of, is_line}
@@ -24,7 +24,10 @@ pub record ShareRead (text : List ℕ) (at : ℕ) (s : Shares) (number account s
   pub share_is : number ≡ 0 → (account ≡ number_at 0 (line_from text at)) × (share ≡ number_at 1 (line_from text at)) × (account ≤ last_account)
   pub goes : number ≡ 0 → Behind text at next
 
-pub record RegionRead (text : List ℕ) (at : ℕ) (ok : Bool) (r : Region) (next : ℕ) : Type 0 where
-  pub decides : ok ≡ is_line 4 (line_from text at)
-  pub region_is : ok ≡ true → r ≡ region_at (line_from text at)
-  pub goes : ok ≡ true → Behind text at next
+abbrev pub NoRegion : List ℕ → ℕ → Type 0
+NoRegion text at = is_line 4 (line_from text at) ≡ false
+
+pub record RegionRead (text : List ℕ) (at : ℕ) (r : Region) (next : ℕ) : Type 0 where
+  pub is : is_line 4 (line_from text at) ≡ true
+  pub region_is : r ≡ region_at (line_from text at)
+  pub goes : Behind text at next

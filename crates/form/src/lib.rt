@@ -1,108 +1,92 @@
 // The form of a listing, and the readers of its lines: a section's count, an account with its share, a region. Each line is read from a place of the text, and refused by its form or its numbers.
 #![tactic(auto)]
 
-ghost use Rattle.std.specs.Prelude.{◌≡◌, ◌≤◌, length};
+ghost use Rattle.std.specs.Prelude.{◌≡◌, ◌≤◌, length, MatchOption};
+ghost use Rattle.regions.specs.Refusals.{number_told};
 ghost use Rattle.form.specs.Form.{Shares};
-ghost use Rattle.form.specs.Readers.{CountRead, ShareRead, RegionRead};
+ghost use Rattle.form.specs.Readers.{CountRead, ShareRead, NoRegion, RegionRead};
 ghost use Rattle.form.specs.Steps.{Stands, SharesRead};
+ghost use Rattle.form.specs.Told.{told, number_heard, line_told, shares_told};
 
-use regions::Region;
+use regions::{Refusal, Region};
+
+// Why a text was refused, and at which line.
+#[derive(Clone, Copy, Debug, PartialEq, Eq)]
+pub struct RefusedLine {
+    pub refusal: Refusal,
+    pub line: usize,
+}
 
 // A section's count, and the byte behind its line.
-#[derive(Clone, Copy)]
+#[derive(Clone, Copy, Debug, PartialEq, Eq)]
 pub struct Count {
-    pub number: u32,
     pub count: usize,
     pub next: usize,
 }
 
-pub fn read_count(text: &[u8], at: usize, most: u32) -> Count
+pub fn read_count(text: &[u8], at: usize, most: u32) -> Result<Count, Refusal>
     requires { at ≤ length text.now }
-    ensures { CountRead text.now at most result.number result.count result.next }
+    ensures { CountRead text.now at most (number_told result) (told (λ c. c.count) result) (told (λ c. c.next) result) }
 {
-    let l = lines::read_line(text, at, 1);
-    let ns = l.numbers;
-    if !l.ok {
-        return Count {
-            number: regions::FORM,
-            count: 0,
-            next: 0,
-        };
+    let Some(l) = lines::read_line(text, at, 1) else {
+        return Err(Refusal::Form);
+    };
+    let count = l.numbers[0];
+    if most < count {
+        return Err(Refusal::Form);
     }
-    if most < ns[0] {
-        return Count {
-            number: regions::FORM,
-            count: 0,
-            next: 0,
-        };
-    }
-    Count {
-        number: 0,
-        count: words::wide(ns[0]),
+    Ok(Count {
+        count: count as usize,
         next: l.next,
-    }
+    })
 }
 
 // A share line, and the byte behind it.
-#[derive(Clone, Copy)]
+#[derive(Clone, Copy, Debug, PartialEq, Eq)]
 pub struct ShareLine {
-    pub number: u32,
     pub account: u32,
     pub share: u32,
     pub next: usize,
 }
 
-fn no_share(number: u32) -> ShareLine
-    ensures { result.number ≡ number }
-{
-    ShareLine {
-        number,
-        account: 0,
-        share: 0,
-        next: 0,
-    }
-}
-
 // Accounts ascend: `from` is the least that may come.
-fn read_share(text: &[u8], at: usize, from: u32) -> ShareLine
+fn read_share(text: &[u8], at: usize, from: u32) -> Result<ShareLine, Refusal>
     requires { at ≤ length text.now }
-    ensures { (s : Shares) → s.from ≡ from → ShareRead text.now at s result.number result.account result.share result.next }
+    ensures { (s : Shares) → s.from ≡ from → ShareRead text.now at s (number_told result) (told (λ l. l.account) result) (told (λ l. l.share) result) (told (λ l. l.next) result) }
 {
-    let l = lines::read_line(text, at, 2);
-    let ns = l.numbers;
-    if !l.ok {
-        return no_share(regions::FORM);
+    let Some(l) = lines::read_line(text, at, 2) else {
+        return Err(Refusal::Form);
+    };
+    let account = l.numbers[0];
+    let share = l.numbers[1];
+    if account < from {
+        return Err(Refusal::Form);
     }
-    if ns[0] < from {
-        return no_share(regions::FORM);
+    if share == 0 {
+        return Err(Refusal::Form);
     }
-    if ns[1] == 0 {
-        return no_share(regions::FORM);
+    if regions::LAST_ACCOUNT < account {
+        return Err(Refusal::Account);
     }
-    if regions::LAST_ACCOUNT < ns[0] {
-        return no_share(regions::ACCOUNT);
-    }
-    ShareLine {
-        number: 0,
-        account: ns[0],
-        share: ns[1],
+    Ok(ShareLine {
+        account,
+        share,
         next: l.next,
-    }
+    })
 }
 
 // A region line, and the byte behind it.
-#[derive(Clone, Copy)]
+#[derive(Clone, Copy, Debug, PartialEq, Eq)]
 pub struct RegionLine {
-    pub ok: bool,
     pub region: Region,
     pub next: usize,
 }
 
-pub fn read_region(text: &[u8], at: usize) -> RegionLine
+pub fn read_region(text: &[u8], at: usize) -> Option<RegionLine>
     requires { at ≤ length text.now }
-    ensures { RegionRead text.now at result.ok result.region result.next }
+    ensures { MatchOption result (NoRegion text.now at) (λ l. RegionRead text.now at l.region l.next) }
 {
-    let l = lines::read_line(text, at, 4);
+    let l = lines::read_line(text, at, 4)?;
     let ns = l.numbers;
     let region = Region {
         start: ns[0],
@@ -110,64 +94,51 @@ pub fn read_region(text: &[u8], at: usize) -> RegionLine
         level: ns[2],
         reference: ns[3],
     };
-    RegionLine {
-        ok: l.ok,
+    Some(RegionLine {
         region,
         next: l.next,
-    }
+    })
 }
 
 // The shares that a section gave, and where it left off.
-#[derive(Clone, Copy)]
+#[derive(Clone, Copy, Debug, PartialEq, Eq)]
 pub struct Given {
-    pub number: u32,
     pub line: usize,
     pub at: usize,
     pub shares: [u32; regions::ACCOUNT_COUNT],
     pub from: u32,
 }
 
-fn no_shares(number: u32, line: usize) -> Given
-    ensures { (result.number ≡ number) × (result.line ≡ line) × (length result.shares ≡ 16) }
-{
-    Given {
-        number,
-        line,
-        at: 0,
-        shares: [0u32; 16],
-        from: 0,
-    }
-}
-
-pub fn read_shares(text: &[u8], line: usize, at: usize) -> Given
+pub fn read_shares(text: &[u8], line: usize, at: usize) -> Result<Given, RefusedLine>
     requires { Stands text.now line at }
-    ensures { SharesRead text.now line at result.number result.line result.at (record { sixteen = result.shares; from = result.from }) }
+    ensures { SharesRead text.now line at (number_heard result) (line_told (λ g. g.line) result) (told (λ g. g.at) result) (shares_told result) }
 {
-    let c = read_count(text, at, 16);
-    if c.number != 0 {
-        return no_shares(c.number, line);
-    }
+    let c = match read_count(text, at, 16) {
+        Ok(c) => c,
+        Err(refusal) => return Err(RefusedLine { refusal, line }),
+    };
     let mut shares = [0u32; 16];
     let mut from: u32 = 0;
     let mut here = c.next;
-    let mut this = line + 1;
-    let mut i: usize = 0;
-    while i < c.count {
-        let s = read_share(text, here, from);
-        if s.number != 0 {
-            return no_shares(s.number, this);
-        }
-        shares[words::wide(s.account)] = s.share;
+    let end = line + 1 + c.count;
+    for this in line + 1..end {
+        let s = match read_share(text, here, from) {
+            Ok(s) => s,
+            Err(refusal) => {
+                return Err(RefusedLine {
+                    refusal,
+                    line: this,
+                });
+            }
+        };
+        shares[s.account as usize] = s.share;
         from = s.account + 1;
         here = s.next;
-        this += 1;
-        i += 1;
     }
-    Given {
-        number: 0,
-        line: this,
+    Ok(Given {
+        line: end,
         at: here,
         shares,
         from,
-    }
+    })
 }

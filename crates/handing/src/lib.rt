@@ -25,7 +25,7 @@ pub fn hand_on(img: &mut [u32], ws: Page, j: usize) -> Handed
 {
     let key = pagewords::key_in(ws, j);
     let without = newpages::inner_without(ws, j);
-    if j + 1 == words::wide(ws[1]) {
+    if j + 1 == ws[1] as usize {
         return Handed {
             rest: key,
             page: without,
@@ -36,10 +36,7 @@ pub fn hand_on(img: &mut [u32], ws: Page, j: usize) -> Handed
     let rest = lifted.from;
     let took = lifted.to;
     let page = newpages::set_key(without, j, took);
-    Handed {
-        rest: rest,
-        page: page,
-    }
+    Handed { rest, page }
 }
 
 // Does a list hold a region with that start.
@@ -48,6 +45,7 @@ fn in_list(img: &[u32], head: u32, start: u32) -> bool
     ensures { result ≡ any_start start (map (record_region img.now) (list_places img.now head)) }
 {
     let mut q = head;
+    // A walk by links: there is no index to count.
     while q != 0 {
         let r = pages::record_region(img, q);
         if r.start == start {
@@ -63,15 +61,13 @@ pub fn clear_flags(img: &[u32], leaf: Page, head: u32) -> Page
     requires { (fill_of leaf ≤ 9) × Ends img.now head }
     ensures { IsLeaf result (mark_of leaf) (fill_of leaf) (next_of leaf) (map (clear (map (record_region img.now) (list_places img.now head))) (entries_of leaf)) (spares_of leaf) }
 {
-    let n = words::wide(leaf[1]);
+    let n = leaf[1] as usize;
     let mut ws = leaf;
-    let mut i: usize = 0;
-    while i < n {
+    for i in 0..n {
         if in_list(img, head, pagewords::start_in(ws, i)) {
             let cleared = newpages::set_flag(ws, i, 0);
             ws = cleared;
         }
-        i += 1;
     }
     ws
 }
@@ -81,21 +77,16 @@ pub fn sink(img: &mut [u32], ws: Page, k: KeyWords) -> Handed
     requires { (length img.old ≡ image_words) × (fill_of ws ≤ 9) × Sinking img.old ws k }
     ensures { (s : Sinking img.old ws k) → Sank img.old img.new ws k s result }
 {
-    let n = words::wide(ws[1]);
+    let n = ws[1] as usize;
     let mut page = ws;
     let mut rest = k;
-    let mut i: usize = 0;
-    while i < n {
+    for i in 0..n {
         let to = pagewords::key_in(page, i);
         let lifted = records::lift(img, rest, to, to.key);
         let took = lifted.to;
         let keyed = newpages::set_key(page, i, took);
         page = keyed;
         rest = lifted.from;
-        i += 1;
     }
-    Handed {
-        rest: rest,
-        page: page,
-    }
+    Handed { rest, page }
 }

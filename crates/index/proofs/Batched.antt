@@ -2,7 +2,7 @@
 -- Assumes nothing.
 use Prim.Native.Nat.{ℕ, suc, ◌+◌, ◌*◌, ◌%◌, ◌<◌, ◌≤◌}
 use mathlib.Core.Path.{◌≡◌, refl, sym, ap, ap₂, ◌∙◌, subst}
-use mathlib.Core.Bool.{true, false}
+use mathlib.Core.Bool.{true}
 use mathlib.Core.List.{List, [], ◌∷◌, ◌++◌}
 use lib.Dec.{T, eqb}
 use lib.ListN.{length, get_or, set, drop}
@@ -18,7 +18,7 @@ use Rattle.regions.specs.Sets.{Set}
 use Rattle.regions.specs.Items.{Item, item, item_region, item_of, items_in, first_items, items_of, batch_no, item_no, behind, numbers_of, behind_all}
 use Rattle.regions.specs.Items.Item.{save_item, delete_item, unknown_item}
 use Rattle.regions.specs.declared.Region.{Region}
-use Rattle.regions.proofs.Numbers.{image_number, own_number, number_own, image_right}
+use Rattle.regions.proofs.Numbers.{own_number, number_own, image_right}
 use Rattle.regions.proofs.Done.{done_batch}
 use Rattle.regions.proofs.Items.{items_next, items_many, item_at, batch_form, batch_room}
 use Rattle.image.specs.Read.{set_of}
@@ -110,9 +110,6 @@ singly_refused {w = w} (then {v = v} {i = i} {n = n} s m) h = singly_refused m h
 module _ (w words places : List ℕ) where
   refused_by : (n : ℕ) → (n ≡ 0 → ⊥) → n ≡ image_first (valid w) (batch_no (length words) (length places)) → Batches w words places n w places
   refused_by n h e = record { number_is = e; refused = λ z. (refl, refl); done = λ z. absurd (h z) }
-
-  pub image_refused : valid w ≡ false → Batches w words places 1 w places
-  image_refused v = refused_by 1 (λ z. omega (arith, z)) (image_number (valid w) _ v)
 
   module _ (v : valid w ≡ true) where
     pub form_refused : (length words % item_width ≡ 0 → ⊥) → Batches w words places 12 w places

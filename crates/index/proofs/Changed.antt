@@ -1,7 +1,7 @@
--- Save and delete: refused with the image as it was, or done with a valid image of the new set.
+-- Save and delete behind the test of the image: what was promised of a valid one.
 -- Assumes nothing.
 use Prim.Native.Nat.{ℕ}
-use mathlib.Core.Path.{◌≡◌, refl}
+use mathlib.Core.Path.{◌≡◌}
 use mathlib.Core.List.{List}
 use lib.Dec.{T}
 use Rattle.words.proofs.Tests.{of_T}
@@ -20,9 +20,6 @@ tested_number w m n v e = own_number (valid w) m n (of_T (valid w) v) e
 
 -- SAVE
 module _ (w : List ℕ) (a : ℕ) (r : Region) where
-  pub save_refused : (n : ℕ) → (n ≡ 0 → ⊥) → n ≡ image_first (valid w) (save_no (set_of w) a r) → Saves w a r n w
-  save_refused n h e = record { number_is = e; refused = λ z. refl; done = λ z. absurd (h z) }
-
   pub save_tested : (n : ℕ) (w' : List ℕ) → T (valid w) → SavesIn w a r n w' → Saves w a r n w'
   save_tested n w' v s =
       record {
@@ -33,9 +30,6 @@ module _ (w : List ℕ) (a : ℕ) (r : Region) where
 
 -- DELETE
 module _ (w : List ℕ) (a s : ℕ) where
-  pub delete_refused : (n : ℕ) → (n ≡ 0 → ⊥) → n ≡ image_first (valid w) (delete_no (set_of w) a s) → Deletes w a s n w
-  delete_refused n h e = record { number_is = e; refused = λ z. refl; done = λ z. absurd (h z) }
-
   pub delete_tested : (n : ℕ) (w' : List ℕ) → T (valid w) → DeletesIn w a s n w' → Deletes w a s n w'
   delete_tested n w' v d =
       record {

@@ -1,78 +1,52 @@
-// The public calls on sets: each takes any input, tests in its order, and answers its number.
+// The public calls on sets: each takes any input, tests in its order, and answers with the first test that refuses it.
 #![tactic(auto)]
 
-ghost use Rattle.std.specs.Prelude.{◌≡◌, ◌+◌, ◌≤◌, T, length, replicate, drop};
-ghost use Rattle.std.proofs.lemmas.List.Edits.{sets};
+ghost use Rattle.std.specs.Prelude.{◌≡◌, ◌+◌, ◌≤◌, T, length, drop};
 ghost use Rattle.regions.specs.Limits.{item_width};
 ghost use Rattle.regions.specs.Items.{item, item_region, items_in};
+ghost use Rattle.regions.specs.Refusals.{number_told};
 ghost use Rattle.image.specs.Valid.{valid};
 ghost use Rattle.changes.specs.Counts.{Counted};
 ghost use Rattle.index.specs.Opening.{OpensSet};
 ghost use Rattle.index.specs.Changes.{Saves, Deletes};
 ghost use Rattle.index.specs.Batches.{Single, AnswersFirst, Batches};
 
-use changes::Kept;
-use regions::Region;
-
-// Every word becomes 0.
-fn clear(img: &mut [u32])
-    ensures { img.new ≡ replicate (length img.old) 0 }
-{
-    let mut i: usize = 0;
-    while i < img.len() {
-        img[i] = 0;
-        i += 1;
-    }
-}
-
-// The sixteen shares, from word 2 on.
-fn put_shares(img: &mut [u32], shares: [u32; regions::ACCOUNT_COUNT])
-    requires { 18 ≤ length img.old }
-    ensures { img.new ≡ sets img.old 2 shares }
-{
-    let mut a: usize = 0;
-    while a < 16 {
-        img[2 + a] = shares[a];
-        a += 1;
-    }
-}
+use regions::{Refusal, Region};
 
 // Opens a set: all words are written, none is read.
-pub fn open_set(img: &mut [u32], shares: [u32; regions::ACCOUNT_COUNT]) -> u32
-    ensures { OpensSet img.old shares result img.new }
+pub fn open_set(img: &mut [u32], shares: [u32; regions::ACCOUNT_COUNT]) -> Result<(), Refusal>
+    ensures { OpensSet img.old shares (number_told result) img.new }
 {
     if img.len() != pages::IMAGE_WORDS {
-        return regions::IMAGE;
+        return Err(Refusal::Image);
     }
     if !regions::shares_fit(shares) {
-        return regions::SHARES;
+        return Err(Refusal::Shares);
     }
-    clear(img);
-    put_shares(img, shares);
+    img.fill(0);
+    img[2..18].copy_from_slice(&shares);
     img[0] = 1;
     img[1] = 1;
     img[pages::PAGE_WIDTH] = 1;
-    0
+    Ok(())
 }
 
 // Saves a region in its account: refused by the first test that it fails, and then no word changes.
-pub fn save(img: &mut [u32], account: u32, r: Region) -> u32
-    ensures { Saves img.old account r result img.new }
+pub fn save(img: &mut [u32], account: u32, r: Region) -> Result<(), Refusal>
+    ensures { Saves img.old account r (number_told result) img.new }
 {
-    let report = audit::audit(img);
-    let held = report.held;
-    if !report.ok {
-        return regions::IMAGE;
-    }
+    let Some(held) = audit::audit(img) else {
+        return Err(Refusal::Image);
+    };
     changes::save(img, account, r, held)
 }
 
 // Deletes the region of an account that starts at `start`.
-pub fn delete(img: &mut [u32], account: u32, start: u32) -> u32
-    ensures { Deletes img.old account start result img.new }
+pub fn delete(img: &mut [u32], account: u32, start: u32) -> Result<(), Refusal>
+    ensures { Deletes img.old account start (number_told result) img.new }
 {
     if !audit::is_valid(img) {
-        return regions::IMAGE;
+        return Err(Refusal::Image);
     }
     changes::delete(img, account, start)
 }
@@ -96,20 +70,17 @@ fn apply(
     what: u32,
     account: u32,
     r: Region,
-    held: [u32; regions::ACCOUNT_COUNT],
-) -> Kept
-    requires { T (valid img.old) × Counted held img.old }
-    ensures { Single img.old (item what account r) result.number img.new × T (valid img.new) × Counted result.held img.new }
+    held: &mut [u32; regions::ACCOUNT_COUNT],
+) -> Result<(), Refusal>
+    requires { T (valid img.old) × Counted held.old img.old }
+    ensures { Single img.old (item what account r) (number_told result) img.new × T (valid img.new) × Counted held.new img.new }
 {
     if what == 0 {
-        return changes::save_kept(img, account, r, held);
-    }
-    if what == 1 {
-        return changes::delete_kept(img, account, r.start, held);
-    }
-    Kept {
-        number: regions::FORM,
-        held,
+        changes::save_kept(img, account, r, held)
+    } else if what == 1 {
+        changes::delete_kept(img, account, r.start, held)
+    } else {
+        Err(Refusal::Form)
     }
 }
 
@@ -118,40 +89,34 @@ fn apply_all(
     img: &mut [u32],
     items: &[u32],
     places: &mut [u32],
-    counts: [u32; regions::ACCOUNT_COUNT],
+    held: &mut [u32; regions::ACCOUNT_COUNT],
 )
-    requires counted { T (valid img.old) × Counted counts img.old }
+    requires counted { T (valid img.old) × Counted held.old img.old }
     requires in_bounds { items_in items.now ≤ length places.old }
     ensures { AnswersFirst (items_in items.now) img.old items.now places.old img.new places.new }
 {
     let n = items.len() / regions::ITEM_WIDTH;
-    let mut held = counts;
-    let mut i: usize = 0;
-    while i < n {
+    for i in 0..n {
         let at = regions::ITEM_WIDTH * i;
         let r = item_region(items, at);
-        let kept = apply(img, items[at], items[at + 1], r, held);
-        held = kept.held;
-        places[i] = kept.number;
-        i += 1;
+        let answer = apply(img, items[at], items[at + 1], r, held);
+        places[i] = regions::number_told(answer);
     }
 }
 
 // A batch: saves and deletes in their order, with one test of the image for all of them. Each item has its number in its place.
-pub fn batch(img: &mut [u32], items: &[u32], places: &mut [u32]) -> u32
-    ensures { Batches img.old items.now places.old result img.new places.new }
+pub fn batch(img: &mut [u32], items: &[u32], places: &mut [u32]) -> Result<(), Refusal>
+    ensures { Batches img.old items.now places.old (number_told result) img.new places.new }
 {
-    let report = audit::audit(img);
-    let held = report.held;
-    if !report.ok {
-        return regions::IMAGE;
-    }
+    let Some(mut held) = audit::audit(img) else {
+        return Err(Refusal::Image);
+    };
     if items.len() % regions::ITEM_WIDTH != 0 {
-        return regions::FORM;
+        return Err(Refusal::Form);
     }
     if places.len() < items.len() / regions::ITEM_WIDTH {
-        return regions::ROOM;
+        return Err(Refusal::Room);
     }
-    apply_all(img, items, places, held);
-    0
+    apply_all(img, items, places, &mut held);
+    Ok(())
 }

@@ -29,7 +29,7 @@ module _ (w : List ℕ) (q i p low : ℕ) where
         room = s.room;
         low = omega arith;
         high = omega arith;
-        free_page_lem = omega (arith, s.pages);
+        free_page = omega (arith, s.pages);
         free_records = omega (
           arith,
           idle_long s.child_at.child,
@@ -38,7 +38,7 @@ module _ (w : List ℕ) (q i p low : ℕ) where
       }
 
   abbrev inner_ready : (h : ℕ) (s : Settling w (suc h) q i p low) → size (suc h) s.child_at.child ≡ 9 → InnerReady w h q i 4
-  inner_ready h s n = record { child_at = s.child_at; nested = s.nested; room = s.room; high = omega arith; free_page_lem = omega (arith, s.pages) }
+  inner_ready h s n = record { child_at = s.child_at; nested = s.nested; room = s.room; high = omega arith; free_page = omega (arith, s.pages) }
 
   -- it does not hold nine
   pub settle_kept : (fill_of (page_of w p) ≡ 9 → ⊥) → (h : ℕ) (s : Settling w h q i p low) → Settled w w h q i p low s

@@ -8,6 +8,7 @@ use lib.Dec.{T, leb, ltb}
 use lib.ListN.{length, length-append}
 use native.Mathlib.Omega.{arith}
 use Rattle.words.specs.Lists.{filter, some}
+use Rattle.std.specs.declared.option.Option.TheVariants.{None, Some}
 use Rattle.words.proofs.Tests.{by_test, lt_yes, lt_no, and_false, and_comm, and_assoc}
 use Rattle.words.proofs.Listed.{all_mono, all_every, filter_all, filter_none, filter_same, filter_filter, pairs_kept}
 use Rattle.words.proofs.Says.{says_same, says_iff, and_says}
@@ -25,7 +26,6 @@ use Rattle.answers.specs.Items.{written_from}
 use Rattle.answers.proofs.Items.{from_none, from_long, from_full, from_first, from_append}
 use Rattle.leaves.specs.declared.Entry.{Entry}
 use Rattle.leaves.specs.declared.Cursor.{Cursor}
-use Rattle.leaves.specs.declared.Step.TheVariants.{Next, End}
 use Rattle.leaves.specs.Cursors.{step_from}
 use Rattle.leaves.specs.Faces.{Faces}
 use Rattle.leaves.proofs.Faces.{faces_on, faces_end}
@@ -105,11 +105,11 @@ module _ {w : List ℕ} {v : Wanted} {end : ℕ} {goal : List Region} {out₀ : 
       }
 
   -- no region is left, or the first one starts at the end or behind it
-  pub walk_end : step_from w c ≡ End → count ≤ room 4 out₀ → Listed goal out₀ out (record { count = count; more = false })
+  pub walk_end : step_from w c ≡ None → count ≤ room 4 out₀ → Listed goal out₀ out (record { count = count; more = false })
   unfolding filter
   walk_end s l = ends (ap (filter (asked v end)) (faces_end w c k.rs k.faces s)) l
 
-  pub walk_stop : (e : Entry) (on : Cursor) → step_from w c ≡ Next e on → end ≤ e.region.start → count ≤ room 4 out₀ → Listed goal out₀ out (record { count = count; more = false })
+  pub walk_stop : (e : Entry) (on : Cursor) → step_from w c ≡ Some (e, on) → end ≤ e.region.start → count ≤ room 4 out₀ → Listed goal out₀ out (record { count = count; more = false })
   walk_stop e on s h l =
       let o = faces_on w c k.rs e on k.faces s in
       ends (ap (filter (asked v end)) o.is ∙ asked_none v end e.region o.rest (rw o.is at k.rising) h) l
@@ -126,7 +126,7 @@ module _ {w : List ℕ} {v : Wanted} {end : ℕ} {goal : List Region} {out₀ : 
       }
 
   -- A TURN
-  pub walk_on : (e : Entry) (on : Cursor) (out' : List ℕ) (n : ℕ) → step_from w c ≡ Next e on → e.region.start < end → Took v e.region out count out' n
+  pub walk_on : (e : Entry) (on : Cursor) (out' : List ℕ) (n : ℕ) → step_from w c ≡ Some (e, on) → e.region.start < end → Took v e.region out count out' n
       → Walking w v end goal out₀ on out' n
   walk_on e on out' n s h t =
       let o = faces_on w c k.rs e on k.faces s in

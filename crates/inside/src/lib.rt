@@ -11,11 +11,11 @@ ghost use Rattle.image.specs.Valid.{valid};
 ghost use Rattle.answers.specs.Items.{written_from};
 ghost use Rattle.inside.specs.Lists.{up_to, wants, asked, Listed};
 
-use leaves::Step;
 use regions::Region;
 
-// Which of the regions inside are asked for: all, those one level below the given one, or those whose level is not above it.
-#[derive(Clone, Copy)]
+// Which of the regions inside are asked for: all, those one level below the given one, or those whose level is not above it. (An enum and no closure: these three wishes are
+// all there are, and one walk serves them.)
+#[derive(Clone, Copy, Debug, PartialEq, Eq)]
 pub enum Wanted {
     All,
     Below(u32),
@@ -60,16 +60,11 @@ fn walk(img: &[u32], from: u32, end: u32, wanted: Wanted, out: &mut [u32]) -> Li
     let room = out.len() / 4;
     let mut cursor = leaves::seek(img, from);
     let mut count: usize = 0;
-    loop {
-        let step = cursor.step(img);
-        let Step::Next(entry, on) = step else {
-            return Listing { count, more: false };
-        };
-        let r = entry.region;
-        if end <= r.start {
-            return Listing { count, more: false };
+    while let Some((entry, on)) = cursor.step(img) {
+        if end <= entry.region.start {
+            break;
         }
-        count = take(wanted, r, out, count);
+        count = take(wanted, entry.region, out, count);
         if room < count {
             return Listing {
                 count: room,
@@ -78,13 +73,14 @@ fn walk(img: &[u32], from: u32, end: u32, wanted: Wanted, out: &mut [u32]) -> Li
         }
         cursor = on;
     }
+    Listing { count, more: false }
 }
 
 // Regions behind `after` and inside the bounds start behind both.
 fn later(start: u32, after: u32) -> u32
     ensures { result ≡ max start after }
 {
-    if start < after { after } else { start }
+    start.max(after)
 }
 
 // DESCENDANT SEARCH of a valid image: what starts strictly inside the bounds, and behind `after`.
@@ -117,6 +113,5 @@ pub fn some_up_to(img: &[u32], start: u32, end: u32, level: u32) -> bool
     ensures { result ≡ some (filter (up_to level) (filter (inside start end) (set_of img.now).regions)) }
 {
     let mut no_room = [0u32; 1];
-    let found = walk(img, start, end, Wanted::UpTo(level), &mut no_room);
-    found.more
+    walk(img, start, end, Wanted::UpTo(level), &mut no_room).more
 }

@@ -7,6 +7,8 @@ use mathlib.Core.List.{List, [], ◌∷◌, ◌++◌, flat_map}
 use lib.Dec.{ltb}
 use lib.ListN.{length}
 use native.Mathlib.Omega.{arith}
+use Rattle.std.specs.declared.option.Option.{Option}
+use Rattle.std.specs.declared.option.Option.TheVariants.{None, Some}
 use Rattle.words.specs.Lists.{filter, All}
 use Rattle.words.proofs.Tests.{by_test, nlt_of}
 use Rattle.words.proofs.Listed.{all_kept}
@@ -32,8 +34,6 @@ use Rattle.stack.proofs.Stacked.{stacked_long}
 use Rattle.stack.proofs.Pairs.{paired_long, paired_whole}
 use Rattle.leaves.specs.declared.Entry.{Entry}
 use Rattle.leaves.specs.declared.Cursor.{Cursor}
-use Rattle.leaves.specs.declared.Step.{Step}
-use Rattle.leaves.specs.declared.Step.TheVariants.{Next, End}
 use Rattle.leaves.specs.Cursors.{left, step_from, start_faced}
 use Rattle.leaves.specs.Faces.{Faces}
 use Rattle.leaves.proofs.Faces.{never, Onward, faces_on, faces_end, faces_long}
@@ -48,26 +48,27 @@ use Rattle.join.proofs.Ahead.{from_fewer, position_low, pairs_at, pairs_from, pa
 use Rattle.join.proofs.Ways.{foreign_end, clear_same}
 
 -- STEPS: what a step of the account says of the cursor's own
-pub own_next : (a : ℕ) (s : Step) (e : Entry) (on : Cursor) → own_step a s ≡ Next e on → (s ≡ Next e on) × (of a e.region ≡ true)
+pub own_next : (a : ℕ) (s : Option (Entry × Cursor)) (e : Entry) (on : Cursor) → own_step a s ≡ Some (e, on) → (s ≡ Some (e, on)) × (of a e.region ≡ true)
 unfolding own_step
-own_next a End e on p = absurd (never End e on refl p)
-own_next a (Next x c) e on p =
+own_next a None e on p = absurd (never None e on refl p)
+own_next a (Some (x, c)) e on p =
     by_test (of a x.region)
     (λ h.
-    let q : Next x c ≡ Next e on = rw h at p in
-    let r : x ≡ e = cc in
+    let q : Some (x, c) ≡ Some (e, on) = rw h at p in
+    let t : ◌≡◌ {A = Entry × Cursor} (x, c) (e, on) = cc in
+    let r : x ≡ e = ap (λ u. u.0) t in
     (q, subst (λ (y : Entry). of a y.region ≡ true) r h))
-    (λ h. absurd (never End e on refl (rw h at p)))
+    (λ h. absurd (never None e on refl (rw h at p)))
 
 -- the end, or a region of another account
-other : {A : Type 0} (a : ℕ) (s : Step) → own_step a s ≡ End → (s ≡ End → A) → ((e : Entry) (on : Cursor) → s ≡ Next e on → of a e.region ≡ false → A) → A
+other : {A : Type 0} (a : ℕ) (s : Option (Entry × Cursor)) → own_step a s ≡ None → (s ≡ None → A) → ((e : Entry) (on : Cursor) → s ≡ Some (e, on) → of a e.region ≡ false → A) → A
 unfolding own_step
-other a End p f g = f refl
-other a (Next x c) p f g = by_test (of a x.region) (λ h. absurd (never End x c refl (sym (rw h at p)))) (λ h. g x c refl h)
+other a None p f g = f refl
+other a (Some (x, c)) p f g = by_test (of a x.region) (λ h. absurd (never None x c refl (sym (rw h at p)))) (λ h. g x c refl h)
 
 -- no step of the account, from its first position on or later: no pair is ahead
 none_ahead : (w v : List ℕ) (a : ℕ) (k : Kind) (m : Mark) (c : Cursor) (y : ℕ) → Rising (set_of v).regions → lowest a ≤ y → Faces v c (filter (starts_from y) (set_of v).regions)
-    → own_step a (step_from v c) ≡ End → pairs_from (set_of w).regions a k m (set_of v).regions y ≡ []
+    → own_step a (step_from v c) ≡ None → pairs_from (set_of w).regions a k m (set_of v).regions y ≡ []
 none_ahead w v a k m c y up low f s =
     let rs = (set_of w).regions in
     let ds = (set_of v).regions in
@@ -80,7 +81,7 @@ none_ahead w v a k m c y up low f s =
 pub join_none : (w v : List ℕ) (a : ℕ) (k : Kind) (m : Mark) (all : Bool) (out : List ℕ) (c : Cursor) (y b s : ℕ) → Rising (set_of v).regions → y ≡ first_position a m
     → Faces v c (filter (starts_from y) (set_of v).regions) → s ≡ start_faced (step_from v c) → b ≡ account s → (b ≡ a → ⊥) → Joined (past m (joined (set_of w) (set_of v) a k)) all out out 0
 join_none w v a k m all out c y b s up e f g h n =
-    let first : own_step a (step_from v c) ≡ End = foreign_end a (step_from v c) (λ q. n (h ∙ ap account g ∙ q)) in
+    let first : own_step a (step_from v c) ≡ None = foreign_end a (step_from v c) (λ q. n (h ∙ ap account g ∙ q)) in
     let none : past m (joined (set_of w) (set_of v) a k) ≡ [] =
     sym (ahead_all (set_of w) (set_of v) a k m) ∙ none_ahead w v a k m c (first_position a m) up (position_low a m) (rw e at f) first in
     rw none
@@ -140,7 +141,7 @@ module _ {w v : List ℕ} {a : ℕ} {k : Kind} {m : Mark} {all : Bool} {out₀ :
   told_is r i e f = e ∙ f ∙ ap (λ x. cond all (length goal) x) (sym (count_is 4 out₀ goal))
 
   -- THE END: no d of the account is left
-  pub join_end : (r : ℕ) → own_step a (step_from v c) ≡ End → r ≡ cond all n (min (room 4 out₀) n) → Joined goal all out₀ out r
+  pub join_end : (r : ℕ) → own_step a (step_from v c) ≡ None → r ≡ cond all n (min (room 4 out₀) n) → Joined goal all out₀ out r
   join_end r s e =
       let z : ahead j.at ≡ [] = none_ahead w v a k m c j.at up j.low j.faces s in
       let same : n ≡ n + length (ahead j.at) = omega (arith, ap length z) in
@@ -167,7 +168,7 @@ module _ {w v : List ℕ} {a : ℕ} {k : Kind} {m : Mark} {all : Bool} {out₀ :
       both p l = rw p (omega arith)
 
   -- A TURN: to d, where the stack has its place
-  module _ (e : Entry) (on : Cursor) (s : own_step a (step_from v c) ≡ Next e on) where
+  module _ (e : Entry) (on : Cursor) (s : own_step a (step_from v c) ≡ Some (e, on)) where
     on_from : Onward v (filter (starts_from j.at) (set_of v).regions) e on
     on_from = faces_on v c _ e on j.faces (own_next a (step_from v c) e on s).0
 
@@ -193,7 +194,7 @@ module _ {w v : List ℕ} {a : ℕ} {k : Kind} {m : Mark} {all : Bool} {out₀ :
   join_small = omega (arith, j.few_total)
 
   -- and its pairs, and on
-  module _ (e : Entry) (on : Cursor) (s : own_step a (step_from v c) ≡ Next e on) (held' : List ℕ) (t' : Stack) (out' : List ℕ) (n' : ℕ) (r : Cursor)
+  module _ (e : Entry) (on : Cursor) (s : own_step a (step_from v c) ≡ Some (e, on)) (held' : List ℕ) (t' : Stack) (out' : List ℕ) (n' : ℕ) (r : Cursor)
       (p : Placed w (too_late (choice_of k) e.region.start) e.region.start held' t') (g : PairedUp (stacked held' t'.n) k m e.region all out n out' n')
       (go : Moved (choice_of k) (set_of w).regions v e.region.start on (ltb 0 t'.n) r) where
     -- where the next d is looked for

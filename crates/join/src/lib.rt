@@ -15,30 +15,21 @@ ghost use Rattle.leaves.specs.Faces.{Faces};
 ghost use Rattle.skips.specs.Joins.{first_position};
 ghost use Rattle.join.specs.Joins.{Joined};
 
-use leaves::{Cursor, Step};
+use leaves::Cursor;
 use regions::{Kind, Mark};
 
 // Whether more pairs are asked for: all of them, or those that fit.
 fn wants_more(total: usize, room: usize, all: bool) -> bool
     ensures { result ≡ (all || ltb total room) }
 {
-    if all {
-        return true;
-    }
-    total < room
+    all || total < room
 }
 
 // What is told: the total, or how many were written.
 fn told(total: usize, room: usize, all: bool) -> usize
     ensures { result ≡ cond all total (min room total) }
 {
-    if all {
-        return total;
-    }
-    if total < room {
-        return total;
-    }
-    room
+    if all { total } else { total.min(room) }
 }
 
 // The pairs past a mark, from the cursor at the first d that may have one on, and its start p. The stack begins there.
@@ -66,10 +57,10 @@ fn pairs_from(
     let mut held = [0u32; stack::HELD_WORDS];
     let mut s = follow::begin(outer, &mut held, choice, account, mark, p);
     let mut total: usize = 0;
+    // No index: it follows the inner leaves' links, as long as more is asked for.
     while wants_more(total, room, all) {
-        let step = skips::own_step(inner, cursor, account);
-        let Step::Next(entry, on) = step else {
-            return told(total, room, all);
+        let Some((entry, on)) = skips::own_step(inner, cursor, account) else {
+            break;
         };
         let d = entry.region;
         s = follow::follow(outer, &mut held, choice, s, d.start);

@@ -19,20 +19,20 @@ fn own_entry(
     p: u32,
     task: Task,
     out: &mut [u32],
-    t: Tally,
-) -> Tally
+    t: &mut Tally,
+)
     requires i_bound { i < 9 }
-    requires small { Small 40000 t }
-    ensures { Tallied task out.old t (entries_met choice p (entry_at (page_of img.now page) i ∷ [])) 0 out.new result }
+    requires small { Small 40000 t.old }
+    ensures { Tallied task out.old t.old (entries_met choice p (entry_at (page_of img.now page) i ∷ [])) 0 out.new t.new }
 {
     if pages::entry_flag(img, page, i) != 0 {
-        return t;
+        return;
     }
     let a = pages::entry_region(img, page, i);
     if !regions::holds(choice, p, a) {
-        return t;
+        return;
     }
-    tally::visit(task, a, out, t)
+    t.visit(task, a, out);
 }
 
 // The regions that a leaf holds and no list does.
@@ -43,18 +43,14 @@ pub fn leaf_own(
     p: u32,
     task: Task,
     out: &mut [u32],
-    start: Tally,
-) -> Tally
+    t: &mut Tally,
+)
     requires page_bound { fill_of (page_of img.now page) ≤ 8 }
-    requires small { Small 30000 start }
-    ensures { Tallied task out.old start (leaf_met img.now choice p page) 0 out.new result }
+    requires small { Small 30000 t.old }
+    ensures { Tallied task out.old t.old (leaf_met img.now choice p page) 0 out.new t.new }
 {
-    let n = words::wide(pages::fill(img, page));
-    let mut t = start;
-    let mut i: usize = 0;
-    while i < n {
-        t = own_entry(img, page, i, choice, p, task, out, t);
-        i += 1;
+    let n = pages::fill(img, page) as usize;
+    for i in 0..n {
+        own_entry(img, page, i, choice, p, task, out, t);
     }
-    t
 }

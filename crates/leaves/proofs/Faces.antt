@@ -5,20 +5,20 @@ use mathlib.Core.Path.{◌≡◌, refl, sym, ap, ◌∙◌, subst}
 use mathlib.Core.List.{List, [], ◌∷◌, map}
 use lib.ListN.{length, get_or, length-map}
 use native.Mathlib.Omega.{arith}
+use Rattle.std.specs.declared.option.Option.{Option}
+use Rattle.std.specs.declared.option.Option.TheVariants.{None, Some}
 use Rattle.words.proofs.Tests.{eq_no}
 use Rattle.regions.specs.declared.Region.{Region}
 use Rattle.xrtree.specs.Tree as tree
 use Rattle.pages.specs.Layout.{page_of, entry_word}
 use Rattle.leaves.specs.declared.Entry.{Entry}
 use Rattle.leaves.specs.declared.Cursor.{Cursor}
-use Rattle.leaves.specs.declared.Step.{Step}
-use Rattle.leaves.specs.declared.Step.TheVariants.{Next, End}
 use Rattle.leaves.specs.Cursors.{Stands, left, moved_on, step_from, handed, start_faced}
 use Rattle.leaves.proofs.Walks.{step_end, ready_few, stands_end, stands_step}
 use Rattle.leaves.specs.Faces.{Faces}
 
 -- a step hands an entry, or it is the end
-pub never : (s : Step) (e : Entry) (on : Cursor) → s ≡ End → s ≡ Next e on → ⊥
+pub never : (s : Option (Entry × Cursor)) (e : Entry) (on : Cursor) → s ≡ None → s ≡ Some (e, on) → ⊥
 never s e on a b = let z : ◌≡◌ {A = ℕ} 0 1 = cc in omega arith
 
 module _ (w : List ℕ) {c : Cursor} {rs : List Region} (f : Faces w c rs) where
@@ -35,7 +35,7 @@ pub record Onward (w : List ℕ) (rs : List Region) (e : Entry) (on : Cursor) : 
   pub is : rs ≡ e.region ∷ rest
   pub faces : Faces w on rest
 
-pub faces_on : (w : List ℕ) (c : Cursor) (rs : List Region) (e : Entry) (on : Cursor) → Faces w c rs → step_from w c ≡ Next e on → Onward w rs e on
+pub faces_on : (w : List ℕ) (c : Cursor) (rs : List Region) (e : Entry) (on : Cursor) → Faces w c rs → step_from w c ≡ Some (e, on) → Onward w rs e on
 faces_on w c rs e on f s = go f.entries f.stands f.regions
   where
     go : (es : List tree.Entry) → Stands w c es → map tree.region_of es ≡ rs → Onward w rs e on
@@ -43,8 +43,9 @@ faces_on w c rs e on f s = go f.entries f.stands f.regions
     go (x ∷ es) st m =
         let k = stands_step w c x es st in
         let h = k.0 in
-        let a : handed x ≡ e = cc in
-        let b : moved_on w c ≡ on = cc in
+        let p : ◌≡◌ {A = Entry × Cursor} (handed x, moved_on w c) (e, on) = cc in
+        let a : handed x ≡ e = ap (λ q. q.0) p in
+        let b : moved_on w c ≡ on = ap (λ q. q.1) p in
         record {
           rest = map tree.region_of es;
           is = sym m ∙ ap (λ (y : Entry). y.region ∷ map tree.region_of es) a;
@@ -52,7 +53,7 @@ faces_on w c rs e on f s = go f.entries f.stands f.regions
         }
 
 -- none where it hands none
-pub faces_end : (w : List ℕ) (c : Cursor) (rs : List Region) → Faces w c rs → step_from w c ≡ End → rs ≡ []
+pub faces_end : (w : List ℕ) (c : Cursor) (rs : List Region) → Faces w c rs → step_from w c ≡ None → rs ≡ []
 faces_end w c rs f s = go f.entries f.stands f.regions
   where
     go : (es : List tree.Entry) → Stands w c es → map tree.region_of es ≡ rs → rs ≡ []
@@ -60,7 +61,7 @@ faces_end w c rs f s = go f.entries f.stands f.regions
     go (x ∷ es) st m = absurd (never (step_from w c) (handed x) (moved_on w c) s (stands_step w c x es st).0)
 
 -- so fewer are left
-pub faces_less : (w : List ℕ) (c : Cursor) (rs : List Region) (e : Entry) (on : Cursor) → Faces w c rs → step_from w c ≡ Next e on → length (left w on) < length (left w c)
+pub faces_less : (w : List ℕ) (c : Cursor) (rs : List Region) (e : Entry) (on : Cursor) → Faces w c rs → step_from w c ≡ Some (e, on) → length (left w on) < length (left w c)
 faces_less w c rs e on f s =
     let o = faces_on w c rs e on f s in
     omega (arith, faces_long w f, faces_long w o.faces, ap length o.is)
@@ -70,11 +71,11 @@ pub faced_end : (w : List ℕ) (c : Cursor) → c.leaf ≡ 0 → 4294967295 ≡ 
 unfolding start_faced
 faced_end w c e = rw (← step_end w c e)
 
-pub faced_next : (w : List ℕ) (c : Cursor) (i s : ℕ) → (c.leaf ≡ 0 → ⊥) → i ≡ c.at → s ≡ get_or (page_of w c.leaf) (entry_word i) 0 → s ≡ start_faced (step_from w c)
+pub faced_next : (w : List ℕ) (c : Cursor) (s : ℕ) → (c.leaf ≡ 0 → ⊥) → s ≡ get_or (page_of w c.leaf) (entry_word c.at) 0 → s ≡ start_faced (step_from w c)
 unfolding start_faced step_from
-faced_next w c i s n e f = rw (eq_no c.leaf 0 n, ← e) f
+faced_next w c s n f = rw (eq_no c.leaf 0 n) f
 
 -- as a step hands it
-pub faced_is : (s : Step) (e : Entry) (on : Cursor) → s ≡ Next e on → start_faced s ≡ e.region.start
+pub faced_is : (s : Option (Entry × Cursor)) (e : Entry) (on : Cursor) → s ≡ Some (e, on) → start_faced s ≡ e.region.start
 unfolding start_faced
 faced_is s e on p = rw p

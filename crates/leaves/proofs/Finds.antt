@@ -5,11 +5,11 @@ use Prim.Native.Nat.{ℕ, zero, suc, ◌≤◌, ◌<◌}
 use mathlib.Core.Path.{◌≡◌, refl, sym, ap, ◌∙◌, subst}
 use mathlib.Core.Bool.{Bool, cond}
 use mathlib.Core.List.{List, [], ◌∷◌, ◌++◌, map, flat_map}
-use lib.Dec.{T, eqb}
+use lib.Dec.{T, eqb, ltb}
 use lib.ListN.{length, drop, length-append}
 use native.Mathlib.Omega.{arith}
 use Rattle.words.specs.Lists.{filter, take_while, drop_while, all, count, All, Pairs}
-use Rattle.words.proofs.Tests.{by_test, and_left, and_right, eq_of, ne_of, lt_yes, lt_no}
+use Rattle.words.proofs.Tests.{by_test, and_left, and_right, eq_of, ne_of, lt_yes, lt_no, lt_of, nlt_of}
 use Rattle.words.proofs.Listed.{all_mono, all_right, flat_append, map_append}
 use Rattle.words.proofs.Says.{and_says, eq_says, le_says, all_says}
 use Rattle.words.proofs.Counted.{sum_le, sum_count, sum_at_most, one_at_most}
@@ -30,13 +30,13 @@ use Rattle.image.proofs.Sound.{set_rises}
 use Rattle.image.proofs.Listings.{leaf_at, listed_at}
 use Rattle.path.specs.Path.{down_to}
 use Rattle.leaves.specs.declared.Cursor.{Cursor}
-use Rattle.leaves.specs.Cursors.{entries_of, entries_in, starts_below, entry_rank, leaves_at, Chain, left, Stands}
+use Rattle.leaves.specs.Cursors.{entries_of, entries_in, starts_below, entry_rank, leaves_at, Chain, left, Stands, cursor_at}
 use Rattle.leaves.specs.Cursors.Chain.{done, link}
 use Rattle.leaves.specs.Faces.{Faces}
 use Rattle.leaves.proofs.Whiles.{drop_while_past, drop_while_none, drop_while_in, drop_while_out, drop_while_map}
 use Rattle.leaves.proofs.Rows.{list_places, Full, leaves_read, entries_read, regions_read, places_among, few_leaves, full_behind}
 use Rattle.leaves.proofs.Parts.{Parted, parted}
-use Rattle.leaves.proofs.Walks.{chain_read, chain_on, entries_in_long}
+use Rattle.leaves.proofs.Walks.{chain_read, chain_on, entries_in_long, cursor_in, cursor_next}
 
 -- RULE 7: places that are listed once or free are no more than there are
 once_few : (used : ℕ → Bool) (n : ℕ) (ps : List ℕ) → T (once_or_free used n ps) → (i : ℕ) → 1 ≤ i → i ≤ n → count i ps ≤ 1
@@ -212,9 +212,14 @@ module _ (w : List ℕ) where
       faced : {c : Cursor} → Stands w c (drop_while (starts_below y) (entries_of w)) → Faces w c (filter (starts_from y) (set_of w).regions)
       faced s = record { entries = drop_while (starts_below y) (entries_of w); stands = s; regions = from_regions }
 
-      pub found_in : (q r n : ℕ) → q ≡ spot → r ≡ entry_rank w q y → n ≡ fill_of (page_of w q) → r < n → Faces w (record { leaf = q; at = r }) (filter (starts_from y) (set_of w).regions)
-      found_in q r n e s f a = faced (seek_in q r n e s f a)
-
-      pub found_next : (q r n m : ℕ) → q ≡ spot → r ≡ entry_rank w q y → n ≡ fill_of (page_of w q) → n ≤ r → m ≡ next_of (page_of w q)
-          → Faces w (record { leaf = m; at = 0 }) (filter (starts_from y) (set_of w).regions)
-      found_next q r n m e s f a g = faced (seek_out q r n m e s f a g)
+      pub found_at : (q r : ℕ) {c : Cursor} → q ≡ spot → r ≡ entry_rank w q y → c ≡ cursor_at w q r → Faces w c (filter (starts_from y) (set_of w).regions)
+      found_at q r e s k =
+          let n = fill_of (page_of w q) in
+          faced
+          (subst (λ d. Stands w d (drop_while (starts_below y) (entries_of w))) (sym k)
+          (by_test (ltb r n)
+          (λ h. let l = lt_of r n h in subst (λ d. Stands w d (drop_while (starts_below y) (entries_of w))) (cursor_in w q r n refl l) (seek_in q r n e s refl l))
+          (λ h.
+          let l = nlt_of r n h in
+          subst (λ d. Stands w d (drop_while (starts_below y) (entries_of w))) (cursor_next w q r n (next_of (page_of w q)) refl l refl)
+          (seek_out q r n (next_of (page_of w q)) e s refl l refl))))

@@ -10,7 +10,7 @@ use Rattle.words.specs.Lists.{All, Pairs}
 use Rattle.words.proofs.Tests.{by_test, lt_of, nlt_of}
 use Rattle.words.proofs.Listed.{all_mono, all_append, flat_append, pairs_left, pairs_right_lem, pairs_across}
 use Rattle.xrtree.specs.Tree.{Entry, Item, list_items}
-use Rattle.xrtree.specs.Tree.Item.{start, key}
+use Rattle.xrtree.specs.Tree.Item.{key}
 use Rattle.xrtree.proofs.Order.{Apart}
 use Rattle.pages.specs.Layout.{page_of, fill_of, key_word, child_in}
 use Rattle.image.proofs.Listings.{listed_at, listed_from, listed_leaf, listed_inner}

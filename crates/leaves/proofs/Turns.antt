@@ -39,18 +39,18 @@ module _ (w : List ℕ) (p y : ℕ) where
   unfolding entries_from take_while
   front_ends i = refl
 
-  pub pass_found : (n i j s : ℕ) → Passing w p y n i → i < n → j ≡ i → s ≡ get_or (page_of w p) (entry_word j) 0 → ltb s y ≡ false → i ≡ entry_rank w p y
-  pass_found n i j s v l d e h =
+  pub pass_found : (n i s : ℕ) → Passing w p y n i → i < n → s ≡ get_or (page_of w p) (entry_word i) 0 → ltb s y ≡ false → i ≡ entry_rank w p y
+  pass_found n i s v l e h =
       let u : n - i ≡ suc (n - suc i) = omega arith in
-      omega (arith, rw u at v.whole, front_stops i (n - suc i) (rw (e, d) at (nlt_of s y h)))
+      omega (arith, rw u at v.whole, front_stops i (n - suc i) (rw e at (nlt_of s y h)))
 
-  pub pass_on : (n i j s : ℕ) → Passing w p y n i → i < n → j ≡ i → s ≡ get_or (page_of w p) (entry_word j) 0 → ltb s y ≡ true → Passing w p y n (i + 1)
-  pass_on n i j s v l d e h =
+  pub pass_on : (n i s : ℕ) → Passing w p y n i → i < n → s ≡ get_or (page_of w p) (entry_word i) 0 → ltb s y ≡ true → Passing w p y n (i + 1)
+  pass_on n i s v l e h =
       let u : n - i ≡ suc (n - suc i) = omega arith in
       let g : i + 1 ≡ suc i = omega arith in
-      record { most = omega arith; few = v.few; whole = rw g (omega (arith, rw u at v.whole, front_goes i (n - suc i) (rw (e, d) at (lt_of s y h)))) }
+      record { most = omega arith; few = v.few; whole = rw g (omega (arith, rw u at v.whole, front_goes i (n - suc i) (rw e at (lt_of s y h)))) }
 
-  pub pass_end : (n i : ℕ) → Passing w p y n i → n ≤ i → i ≡ entry_rank w p y
+  pub pass_end : (n i : ℕ) → Passing w p y n i → n ≤ i → n ≡ entry_rank w p y
   pass_end n i v l =
       let u : n - i ≡ 0 = omega arith in
       omega (arith, rw u at v.whole, front_ends i)

@@ -8,6 +8,7 @@ use lib.ListN.{length, drop}
 use lib.Seq.{drop-nil, drop-append-le, drop_at}
 use native.Mathlib.Numerals.{add-one}
 use native.Mathlib.Omega.{arith}
+use Rattle.std.specs.declared.option.Option.TheVariants.{None, Some}
 use Rattle.words.proofs.Tests.{by_test, eq_yes, eq_no, eq_of, ne_of, lt_yes, lt_no, lt_of, nlt_of}
 use Rattle.xrtree.specs.Tree as tree
 use Rattle.regions.specs.declared.Region.{Region}
@@ -15,9 +16,8 @@ use Rattle.pages.specs.Layout.{page_count, page_of, fill_of, next_of, region_in,
 use Rattle.image.specs.Read.{entry_at, entries_from}
 use Rattle.image.proofs.Listings.{entries_long}
 use Rattle.leaves.specs.declared.Cursor.{Cursor}
-use Rattle.leaves.specs.Cursors.{entries_in, leaves_from, leaves_at, Chain, left, Ready, Stands, moved_on, step_from, handed}
+use Rattle.leaves.specs.Cursors.{entries_in, leaves_from, leaves_at, Chain, left, Ready, Stands, cursor_at, moved_on, step_from, handed}
 use Rattle.leaves.specs.Cursors.Chain.{done, link}
-use Rattle.leaves.specs.declared.Step.TheVariants.{Next, End}
 
 -- LEAVES THAT END are what is read by following the links, with as many steps as there are leaves or more
 pub chain_read : {w : List ℕ} {q : ℕ} {qs : List ℕ} (n : ℕ) → Chain w q qs → length qs ≤ n → leaves_from n w q ≡ qs
@@ -82,23 +82,23 @@ left_end w c e =
     ap (λ q. drop c.at (flat_map (entries_in w) (leaves_at w q))) e
     ∙ ap (λ l. drop c.at (flat_map (entries_in w) l)) (leaves_none page_count w) ∙ drop-nil c.at
 
--- A STEP, as the code makes it
-pub moved_in : (w : List ℕ) (c : Cursor) (n : ℕ) → n ≡ fill_of (page_of w c.leaf) → c.at + 1 < n → record { leaf = c.leaf; at = c.at + 1 } ≡ moved_on w c
-unfolding moved_on
-moved_in w c n e l = rw (lt_yes (c.at + 1) (fill_of (page_of w c.leaf)) (rw e at l))
+-- A CURSOR AT AN ENTRY and a step, as the code makes them
+pub cursor_in : (w : List ℕ) (p i n : ℕ) → n ≡ fill_of (page_of w p) → i < n → record { leaf = p; at = i } ≡ cursor_at w p i
+unfolding cursor_at
+cursor_in w p i n e l = rw (lt_yes i (fill_of (page_of w p)) (rw e at l))
 
-pub moved_out : (w : List ℕ) (c : Cursor) (n q : ℕ) → n ≡ fill_of (page_of w c.leaf) → n ≤ c.at + 1 → q ≡ next_of (page_of w c.leaf) → record { leaf = q; at = 0 } ≡ moved_on w c
-unfolding moved_on
-moved_out w c n q e l f = rw (lt_no (c.at + 1) (fill_of (page_of w c.leaf)) (rw e at l), f)
+pub cursor_next : (w : List ℕ) (p i n q : ℕ) → n ≡ fill_of (page_of w p) → n ≤ i → q ≡ next_of (page_of w p) → record { leaf = q; at = 0 } ≡ cursor_at w p i
+unfolding cursor_at
+cursor_next w p i n q e l f = rw (lt_no i (fill_of (page_of w p)) (rw e at l), f)
 
-pub step_end : (w : List ℕ) (c : Cursor) → c.leaf ≡ 0 → End ≡ step_from w c
+pub step_end : (w : List ℕ) (c : Cursor) → c.leaf ≡ 0 → None ≡ step_from w c
 unfolding step_from
 step_end w c e = rw (eq_yes c.leaf 0 e)
 
-pub step_next : (w : List ℕ) (c on : Cursor) (i f : ℕ) (r : Region) → (c.leaf ≡ 0 → ⊥) → i ≡ c.at → r ≡ region_in (page_of w c.leaf) (entry_word i)
-    → f ≡ flag_in (page_of w c.leaf) i → on ≡ moved_on w c → Next (record { region = r; flag = f }) on ≡ step_from w c
+pub step_next : (w : List ℕ) (c on : Cursor) (f : ℕ) (r : Region) → (c.leaf ≡ 0 → ⊥) → r ≡ region_in (page_of w c.leaf) (entry_word c.at)
+    → f ≡ flag_in (page_of w c.leaf) c.at → on ≡ moved_on w c → Some (record { region = r; flag = f }, on) ≡ step_from w c
 unfolding step_from
-step_next w c on i f r n e a b m = rw (eq_no c.leaf 0 n, a, b, m, e)
+step_next w c on f r n a b m = rw (eq_no c.leaf 0 n, a, b, m)
 
 -- A STEP, of a cursor that is ready: the entry it hands comes first of what is left, and the rest is left
 pub record Goes (w : List ℕ) (c : Cursor) : Type 0 where
@@ -129,7 +129,7 @@ module _ (w : List ℕ) (c : Cursor) (r : Ready w c) (n : c.leaf ≡ 0 → ⊥) 
   unfolding left
   goes_in l =
       let L = leads w c.leaf r.chain n in
-      let m = moved_in w c (fill_of (page_of w c.leaf)) refl l in
+      let m = cursor_in w c.leaf (c.at + 1) (fill_of (page_of w c.leaf)) refl l in
       record {
         few = omega (arith, L.few);
         ahead = rw (← m) (left_first ∙ rw (here, add-one c.at));
@@ -140,7 +140,7 @@ module _ (w : List ℕ) (c : Cursor) (r : Ready w c) (n : c.leaf ≡ 0 → ⊥) 
   unfolding left
   goes_out l =
       let L = leads w c.leaf r.chain n in
-      let m = moved_out w c (fill_of (page_of w c.leaf)) (next_of (page_of w c.leaf)) refl l refl in
+      let m = cursor_next w c.leaf (c.at + 1) (fill_of (page_of w c.leaf)) (next_of (page_of w c.leaf)) refl l refl in
       let e : length (entries_in w c.leaf) ≡ suc c.at = omega (arith, entries_in_long w c.leaf, r.inside n) in
       record {
         few = omega (arith, L.few, r.inside n);
@@ -160,7 +160,7 @@ ready_few w c r =
     (λ h. omega (arith, (goes w c r (ne_of c.leaf 0 h)).few))
 
 -- WHAT A STEP ANSWERS, for a cursor that stands before es: the end where es is empty, else its first entry and a cursor that stands before the rest
-pub stands_end : (w : List ℕ) (c : Cursor) → Stands w c [] → step_from w c ≡ End
+pub stands_end : (w : List ℕ) (c : Cursor) → Stands w c [] → step_from w c ≡ None
 stands_end w c s =
     by_test (eqb c.leaf 0) (λ h. sym (step_end w c (eq_of c.leaf 0 h)))
     (λ h. absurd (nothing (left w (moved_on w c)) (sym s.ahead ∙ (goes w c s.ready (ne_of c.leaf 0 h)).ahead)))
@@ -168,7 +168,7 @@ stands_end w c s =
     nothing : {e : tree.Entry} (es : List tree.Entry) → [] ≡ e ∷ es → ⊥
     nothing es h = omega (arith, ap length h)
 
-pub stands_step : (w : List ℕ) (c : Cursor) (e : tree.Entry) (es : List tree.Entry) → Stands w c (e ∷ es) → (step_from w c ≡ Next (handed e) (moved_on w c)) × Stands w (moved_on w c) es
+pub stands_step : (w : List ℕ) (c : Cursor) (e : tree.Entry) (es : List tree.Entry) → Stands w c (e ∷ es) → (step_from w c ≡ Some (handed e, moved_on w c)) × Stands w (moved_on w c) es
 unfolding step_from
 stands_step w c e es s =
     by_test (eqb c.leaf 0) (λ h. absurd (let z = ap length (sym (left_end w c (eq_of c.leaf 0 h)) ∙ s.ahead) in omega arith))

@@ -1,6 +1,6 @@
 -- The entries of a set in order, along the leaves' links: what a cursor has before it, and what a step hands.
 -- Assumes nothing.
-use Rattle.std.specs.Prelude.{ℕ, zero, suc, ◌+◌, ◌≤◌, ◌<◌, ◌≡◌, Bool, cond, eqb, ltb, length, drop}
+use Rattle.std.specs.Prelude.{ℕ, zero, suc, ◌+◌, ◌≤◌, ◌<◌, ◌≡◌, Bool, cond, eqb, ltb, length, drop, Option, Some, None}
 use mathlib.Core.List.{List, [], ◌∷◌, flat_map}
 use Rattle.words.specs.Lists.{take_while}
 use Rattle.xrtree.specs.Tree as tree
@@ -8,8 +8,6 @@ use Rattle.pages.specs.Layout.{page_count, page_of, fill_of, next_of}
 use Rattle.image.specs.Read.{entry_at, entries_from, depth_of, tree_of}
 use Rattle.leaves.specs.declared.Entry.{Entry}
 use Rattle.leaves.specs.declared.Cursor.{Cursor}
-use Rattle.leaves.specs.declared.Step.{Step}
-use Rattle.leaves.specs.declared.Step.TheVariants.{Next, End}
 
 -- THE ENTRIES OF A TREE, from left to right; of the leaf at place p
 abbrev pub list_entries : tree.Listing tree.Entry
@@ -55,20 +53,25 @@ pub record Stands (w : List ℕ) (c : Cursor) (es : List tree.Entry) : Type 0 wh
   pub ready : Ready w c
   pub ahead : left w c ≡ es
 
--- the cursor moved on: in its leaf, or to the first entry of the next one
-unfoldable pub moved_on : List ℕ → Cursor → Cursor
-moved_on w c =
-    cond (ltb (c.at + 1) (fill_of (page_of w c.leaf))) (record { leaf = c.leaf; at = c.at + 1 })
-    (record { leaf = next_of (page_of w c.leaf); at = 0 })
+-- the cursor at entry i of the leaf at place p; behind its last entry at the first of the next one
+unfoldable pub cursor_at : List ℕ → ℕ → ℕ → Cursor
+cursor_at w p i =
+    cond (ltb i (fill_of (page_of w p))) (record { leaf = p; at = i })
+    (record { leaf = next_of (page_of w p); at = 0 })
+
+-- the cursor moved on
+abbrev pub moved_on : List ℕ → Cursor → Cursor
+moved_on w c = cursor_at w c.leaf (c.at + 1)
 
 -- the tree's entry as the code hands it
 abbrev pub handed : tree.Entry → Entry
 handed e = record { region = e.region; flag = e.flag }
 
-unfoldable pub step_from : List ℕ → Cursor → Step
-step_from w c = cond (eqb c.leaf 0) End (Next (handed (entry_at (page_of w c.leaf) c.at)) (moved_on w c))
+-- A STEP hands the entry that the cursor stands at and the cursor moved on; at the end nothing
+unfoldable pub step_from : List ℕ → Cursor → Option (Entry × Cursor)
+step_from w c = cond (eqb c.leaf 0) None (Some (handed (entry_at (page_of w c.leaf) c.at), moved_on w c))
 
 -- the start that it faces, by its step; the last position of all where there is none
-unfoldable pub start_faced : Step → ℕ
-start_faced End = 4294967295
-start_faced (Next e c) = e.region.start
+unfoldable pub start_faced : Option (Entry × Cursor) → ℕ
+start_faced None = 4294967295
+start_faced (Some s) = s.0.region.start

@@ -9,7 +9,7 @@ ghost use Rattle.pages.specs.Layout.{page_of, fill_of};
 ghost use Rattle.image.specs.Read.{set_of};
 ghost use Rattle.image.specs.Valid.{valid};
 ghost use Rattle.path.specs.Path.{path_of, padded};
-ghost use Rattle.leaves.specs.Cursors.{entry_rank, moved_on, step_from, start_faced};
+ghost use Rattle.leaves.specs.Cursors.{entry_rank, cursor_at, step_from, start_faced};
 ghost use Rattle.leaves.specs.Faces.{Faces};
 
 use regions::{Choice, Region};
@@ -28,27 +28,20 @@ pub struct Cursor {
     pub at: u32,
 }
 
-#[derive(Clone, Copy)]
-pub enum Step {
-    Next(Entry, Cursor),
-    End,
-}
-
 impl Cursor {
-    // The entry that the cursor stands at, with the cursor moved on.
-    pub fn step(self, img: &[u32]) -> Step
+    // The entry that the cursor stands at, with the cursor moved on; at the end there is none.
+    pub fn step(self, img: &[u32]) -> Option<(Entry, Cursor)>
         requires { self.at < 9 }
         ensures { result ≡ step_from img.now self }
     {
-        let leaf = self.leaf;
-        if leaf == 0 {
-            return Step::End;
+        if self.leaf == 0 {
+            return None;
         }
-        let i = words::wide(self.at);
-        let region = pages::entry_region(img, leaf, i);
-        let flag = pages::entry_flag(img, leaf, i);
-        let on = self.moved(img);
-        Step::Next(Entry { region, flag }, on)
+        let i = self.at as usize;
+        let region = pages::entry_region(img, self.leaf, i);
+        let flag = pages::entry_flag(img, self.leaf, i);
+        let on = cursor_at(img, self.leaf, self.at + 1);
+        Some((Entry { region, flag }, on))
     }
 
     // The start of the entry that the cursor stands at; at the end, the last position of all.
@@ -56,27 +49,23 @@ impl Cursor {
         requires { self.at < 9 }
         ensures { result ≡ start_faced (step_from img.now self) }
     {
-        let leaf = self.leaf;
-        if leaf == 0 {
-            return 4294967295;
+        if self.leaf == 0 {
+            return u32::MAX;
         }
-        pages::entry_start(img, leaf, words::wide(self.at))
+        pages::entry_start(img, self.leaf, self.at as usize)
     }
+}
 
-    // To the next entry of the leaf, or the first of the leaf on the right.
-    fn moved(self, img: &[u32]) -> Cursor
-        requires { self.at < 9 }
-        ensures { result ≡ moved_on img.now self }
-    {
-        let leaf = self.leaf;
-        let at = self.at + 1;
-        if at < pages::fill(img, leaf) {
-            Cursor { leaf, at }
-        } else {
-            Cursor {
-                leaf: pages::next_leaf(img, leaf),
-                at: 0,
-            }
+// The cursor at entry `at` of a leaf, or behind its last entry at the first of the leaf on the right.
+fn cursor_at(img: &[u32], leaf: u32, at: u32) -> Cursor
+    ensures { result ≡ cursor_at img.now leaf at }
+{
+    if at < pages::fill(img, leaf) {
+        Cursor { leaf, at }
+    } else {
+        Cursor {
+            leaf: pages::next_leaf(img, leaf),
+            at: 0,
         }
     }
 }
@@ -87,14 +76,12 @@ fn entry_rank(img: &[u32], leaf: u32, choice: Choice, x: u32) -> u32
     ensures { result ≡ entry_rank img.now leaf (too_late choice x) }
 {
     let n = pages::fill(img, leaf);
-    let mut i: u32 = 0;
-    while i < n {
-        if !regions::in_time(choice, x, pages::entry_start(img, leaf, words::wide(i))) {
+    for i in 0..n {
+        if !regions::in_time(choice, x, pages::entry_start(img, leaf, i as usize)) {
             return i;
         }
-        i += 1;
     }
-    i
+    n
 }
 
 // THE CURSOR at the first entry that starts too late to hold x, which strictly is at x or behind it and with self behind it, for those who have x's path: in the leaf
@@ -104,17 +91,8 @@ pub fn seek_along(img: &[u32], way: [u32; 4], choice: Choice, x: u32) -> Cursor
     requires way_value { way ≡ padded (path_of img.now x) }
     ensures { Faces img.now result (filter (starts_from (too_late choice x)) (set_of img.now).regions) }
 {
-    let depth = path::depth(img);
-    let leaf = way[depth];
-    let rank = entry_rank(img, leaf, choice, x);
-    if rank < pages::fill(img, leaf) {
-        Cursor { leaf, at: rank }
-    } else {
-        Cursor {
-            leaf: pages::next_leaf(img, leaf),
-            at: 0,
-        }
-    }
+    let leaf = way[path::depth(img)];
+    cursor_at(img, leaf, entry_rank(img, leaf, choice, x))
 }
 
 // The cursor at the first entry that starts behind x.

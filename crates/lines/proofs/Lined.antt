@@ -3,7 +3,7 @@
 use Prim.Native.Nat.{ℕ, zero, suc, ◌+◌, ◌-◌, ◌≤◌, ◌<◌}
 use mathlib.Core.Path.{◌≡◌, refl, sym, ap, ap₂, ◌∙◌}
 use mathlib.Core.Logic.{◌≢◌}
-use mathlib.Core.Bool.{Bool, true, false, ◌&&◌, true≢false, false≢true}
+use mathlib.Core.Bool.{Bool, true, false, ◌&&◌, true≢false}
 use mathlib.Core.List.{List, [], ◌∷◌, ◌++◌, append_assoc, append-nil}
 use lib.Dec.{eqb, eqb-suc-suc}
 use lib.ListN.{length, take, drop, get_or, set, length-append}
@@ -13,7 +13,7 @@ use native.Mathlib.Numerals.{add-one}
 use Rattle.words.specs.Lists.{all, take_while}
 use Rattle.words.proofs.Tests.{T_of, of_T, off_t, by_test, and_false, eq_no, eq_yes}
 use Rattle.lines.specs.Text.{decimal, spaced, line, pieces, lines_of, first_of, numbers_of, same, small, is_line, is_newline, is_break, is_digit, value, is_number}
-use Rattle.lines.specs.Reads.{ReadsNumber, ReadsLine}
+use Rattle.lines.specs.Reads.{NoNumber, ReadsNumber, NoLine, ReadsLine}
 use Rattle.lines.specs.Breaks.{break_behind}
 use Rattle.lines.proofs.Digits.{Digits, small_says, decimal_all, number_of_lem, number_back}
 use Rattle.lines.proofs.Runs.{byte_in, run}
@@ -70,19 +70,19 @@ rest_line_lem (suc j) n more =
     first_on is_newline (decimal n) (32 ∷ more) (decimal_ends n) ∙ ap (decimal n ++◌) (first_on is_newline (32 ∷ []) more (space_breaks.2, tt))
 
 -- a line without its first number
-line_is_lem : ℕ → List ℕ → List ℕ → Bool
-line_is_lem k l ns = same l (line ns) && (all small ns && eqb (length ns) k)
+is_line_of : ℕ → List ℕ → List ℕ → Bool
+is_line_of k l ns = same l (line ns) && (all small ns && eqb (length ns) k)
 
-less : (j n : ℕ) (l ns : List ℕ) → n ≤ 4294967295 → line_is_lem (suc (suc j)) (decimal n ++ (32 ∷ l)) (n ∷ ns) ≡ line_is_lem (suc j) l ns
-unfolding line_is_lem all same
+less : (j n : ℕ) (l ns : List ℕ) → n ≤ 4294967295 → is_line_of (suc (suc j)) (decimal n ++ (32 ∷ l)) (n ∷ ns) ≡ is_line_of (suc j) l ns
+unfolding is_line_of all same
 less j n l [] h = rw (eq_no 1 (suc (suc j)) (λ e. omega arith), eq_no 0 (suc j) (λ e. omega arith)) (simp and_false)
 less j n l (m ∷ ms) h =
     rw (line_more, same_front, of_T (small n) ((small_says n).so_yes h), eqb-suc-suc (length (m ∷ ms)) (suc j))
 
 line_less : (j n : ℕ) (l : List ℕ) → n ≤ 4294967295 → is_line (suc (suc j)) (decimal n ++ (32 ∷ l)) ≡ is_line (suc j) l
-unfolding is_line line_is_lem
+unfolding is_line is_line_of
 line_less j n l h =
-    ap (line_is_lem (suc (suc j)) (decimal n ++ (32 ∷ l))) (numbers_cut n 32 l h space_breaks.0 space_breaks.1) ∙ less j n l (numbers_of l) h
+    ap (is_line_of (suc (suc j)) (decimal n ++ (32 ∷ l))) (numbers_cut n 32 l h space_breaks.0 space_breaks.1) ∙ less j n l (numbers_of l) h
 
 -- a number and its break: the line goes on behind them
 pub record Goes (j n : ℕ) (rest more : List ℕ) : Type 0 where
@@ -172,53 +172,44 @@ reading_first text at (suc j) ns h =
     let e : suc j - 0 ≡ suc j = omega arith in
     record { decides = rw e; numbers = rw e; ends = rw e }
 
-pub reading_last : (text : List ℕ) (at k place : ℕ) (ns : List ℕ) → Reading text at k k place ns → ReadsLine text at k true ns place
+pub reading_last : (text : List ℕ) (at k place : ℕ) (ns : List ℕ) → Reading text at k k place ns → ReadsLine text at k ns place
 unfolding rest_ok rest_line pieces
 reading_last text at k place ns c =
     let e : k - k ≡ 0 = omega arith in
     record {
-      decides = sym (c.decides ∙ ap (λ j. rest_ok j (drop place text)) e);
-      numbers = λ t. sym (c.numbers ∙ ap (λ j. take k ns ++ numbers_of (rest_line j (drop place text))) e ∙ append-nil (take k ns));
-      ends = λ t. sym (c.ends ∙ ap (λ j. place + length (rest_line j (drop place text))) e ∙ omega arith);
+      is = c.decides ∙ ap (λ j. rest_ok j (drop place text)) e;
+      numbers = sym (c.numbers ∙ ap (λ j. take k ns ++ numbers_of (rest_line j (drop place text))) e ∙ append-nil (take k ns));
+      ends = sym (c.ends ∙ ap (λ j. place + length (rest_line j (drop place text))) e ∙ omega arith);
     }
 
 module _ (text : List ℕ) (at k i place : ℕ) (ns : List ℕ) (c : Reading text at k i place ns) (l : i < k) where
   left : k - i ≡ suc (k - (i + 1))
   left = omega arith
 
-  fails : (rest_ok (suc (k - (i + 1))) (drop place text) ≡ true → ⊥) → {ok : Bool} {ms : List ℕ} {m : ℕ} → ok ≡ false → ReadsLine text at k ok ms m
-  fails f e =
-      let no_more : _ ≡ true → ⊥ = λ t. false≢true (sym e ∙ t) in
-      record {
-        decides = e ∙ sym (off_t _ (λ t. f (ap (λ j. rest_ok j (drop place text)) (sym left) ∙ sym c.decides ∙ of_T _ t)));
-        numbers = λ t. absurd (no_more t);
-        ends = λ t. absurd (no_more t);
-      }
+  fails : (rest_ok (suc (k - (i + 1))) (drop place text) ≡ true → ⊥) → NoLine text at k
+  fails f = off_t _ (λ t. f (ap (λ j. rest_ok j (drop place text)) (sym left) ∙ sym c.decides ∙ of_T _ t))
 
-  pub no_number_there : (found : Bool) (n next : ℕ) → ReadsNumber text place found n next → found ≡ false → {ok : Bool} {ms : List ℕ} {m : ℕ} → ok ≡ false → ReadsLine text at k ok ms m
-  no_number_there found n next r f = fails (λ t. true≢false (sym (begins_run _ (drop place text) t).0 ∙ sym r.decides ∙ f))
+  pub no_number_there : NoNumber text place → NoLine text at k
+  no_number_there f = fails (λ t. true≢false (sym (begins_run _ (drop place text) t).0 ∙ f))
 
-  module _ (found : Bool) (n next : ℕ) (r : ReadsNumber text place found n next) (f : found ≡ true) where
-    number_there : is_number (run text place) ≡ true
-    number_there = sym r.decides ∙ f
-
+  module _ (n next : ℕ) (r : ReadsNumber text place n next) where
     at_next : get_or (drop place text) (length (run text place)) 0 ≡ get_or text next 0
-    at_next = get_or-drop place text (length (run text place)) 0 ∙ ap (λ j. get_or text j 0) (sym (r.ends f))
+    at_next = get_or-drop place text (length (run text place)) 0 ∙ ap (λ j. get_or text j 0) (sym r.ends)
 
-    pub no_break_there : get_or text next 0 ≢ break_behind (k - (i + 1)) → {ok : Bool} {ms : List ℕ} {m : ℕ} → ok ≡ false → ReadsLine text at k ok ms m
+    pub no_break_there : get_or text next 0 ≢ break_behind (k - (i + 1)) → NoLine text at k
     no_break_there b = fails (λ t. b (sym at_next ∙ (begins_run _ (drop place text) t).1))
 
     written : run text place ≡ decimal n
-    written = (number_of_lem (run text place) number_there).0 ∙ ap decimal (sym (r.number f))
+    written = (number_of_lem (run text place) r.is).0 ∙ ap decimal (sym r.number)
 
     goes : get_or text next 0 ≡ break_behind (k - (i + 1)) → Goes (k - (i + 1)) n (drop place text) (drop (next + 1) text)
     goes b =
-        let small = (number_of_lem (run text place) number_there).1 in
-        let far : place + suc (length (run text place)) ≡ next + 1 = omega (arith, r.ends f) in
+        let small = (number_of_lem (run text place) r.is).1 in
+        let far : place + suc (length (run text place)) ≡ next + 1 = omega (arith, r.ends) in
         let behind = drop-drop (suc (length (run text place))) place text ∙ ap (λ j. drop j text) far in
-        goes_on (k - (i + 1)) n (drop place text) (drop (next + 1) text) (omega (arith, small, r.number f))
-        (run_begins _ (drop place text) number_there (at_next ∙ b)
-        ∙ ap₂ (λ m more. decimal m ++ (break_behind (k - (i + 1)) ∷ more)) (sym (r.number f)) behind)
+        goes_on (k - (i + 1)) n (drop place text) (drop (next + 1) text) (omega (arith, small, r.number))
+        (run_begins _ (drop place text) r.is (at_next ∙ b)
+        ∙ ap₂ (λ m more. decimal m ++ (break_behind (k - (i + 1)) ∷ more)) (sym r.number) behind)
 
     pub reading_next : i < length ns → get_or text next 0 ≡ break_behind (k - (i + 1)) → Reading text at k (i + 1) (next + 1) (set ns i n)
     reading_next s b =
@@ -232,5 +223,5 @@ module _ (text : List ℕ) (at k i place : ℕ) (ns : List ℕ) (c : Reading tex
               ∙ ap (take i ns ++◌) g.numbers
               ∙ sym (append_snoc (take i ns) n (numbers_of rest))
               ∙ ap (◌++ numbers_of rest) (sym (take-suc-set ns i n s) ∙ ap (λ j. take j (set ns i n)) (sym (add-one i)));
-          ends = c.ends ∙ ap (λ j. place + length (rest_line j (drop place text))) left ∙ omega (arith, g.long, ap length written, r.ends f);
+          ends = c.ends ∙ ap (λ j. place + length (rest_line j (drop place text))) left ∙ omega (arith, g.long, ap length written, r.ends);
         }

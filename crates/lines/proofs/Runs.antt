@@ -3,7 +3,7 @@
 use Prim.Native.Nat.{ℕ, ◌+◌, ◌-◌, ◌*◌, ◌≤◌, ◌<◌}
 use mathlib.Core.Path.{◌≡◌, refl, sym, ap, ◌∙◌}
 use mathlib.Core.Logic.{◌≢◌}
-use mathlib.Core.Bool.{Bool, true, false, false≢true}
+use mathlib.Core.Bool.{Bool, true, false}
 use mathlib.Core.List.{List, [], ◌∷◌}
 use lib.Dec.{ltb}
 use lib.ListN.{length, drop, get_or, get_or-eq_default, drop_of_length-le}
@@ -13,7 +13,7 @@ use native.Mathlib.Numerals.{add-one}
 use Rattle.words.specs.Lists.{take_while}
 use Rattle.words.proofs.Tests.{of_T, off_t, by_test, lt_of, nlt_of}
 use Rattle.lines.specs.Text.{is_digit, value_from, value, small, is_number}
-use Rattle.lines.specs.Reads.{ReadsNumber}
+use Rattle.lines.specs.Reads.{NoNumber, ReadsNumber}
 use Rattle.lines.proofs.Digits.{Digits, digit_of, digit_yes, value_step, value_least, small_says, number_of_lem, number_none, number_zero, number_led, number_run}
 
 -- a byte that is not 0 stands in the text
@@ -62,38 +62,33 @@ counted_more text at b v i e d c =
     }
 
 -- NO NUMBER
-pub reads_none : (text : List ℕ) (at : ℕ) {ok : Bool} {n next : ℕ} → is_number (run text at) ≡ false → ok ≡ false → ReadsNumber text at ok n next
-reads_none text at h e =
-    let no_more : _ ≡ true → ⊥ = λ t. false≢true (sym e ∙ t) in
-    record { decides = e ∙ sym h; number = λ t. absurd (no_more t); ends = λ t. absurd (no_more t) }
-
-pub too_large : (text : List ℕ) (at v i : ℕ) → Counted text at v i → 4294967295 < v → is_number (run text at) ≡ false
+pub too_large : (text : List ℕ) (at v i : ℕ) → Counted text at v i → 4294967295 < v → NoNumber text at
 too_large text at v i c h =
     off_t _ (λ t. omega (arith, (number_of_lem (run text at) (of_T _ t)).1, c.total, value_least v (run text i)))
 
-pub none_there : (text : List ℕ) (at : ℕ) → is_digit (get_or text at 0) ≡ false → is_number (run text at) ≡ false
+pub none_there : (text : List ℕ) (at : ℕ) → is_digit (get_or text at 0) ≡ false → NoNumber text at
 none_there text at d = ap is_number (run_none text at d) ∙ number_none
 
 zero_run : (text : List ℕ) (at : ℕ) → get_or text at 0 ≡ 48 → run text at ≡ 48 ∷ run text (at + 1)
 zero_run text at z = run_more text at (ap is_digit z ∙ digit_yes 48 (omega arith) (omega arith)) ∙ ap (◌∷ run text (at + 1)) z
 
-pub led : (text : List ℕ) (at : ℕ) → get_or text at 0 ≡ 48 → is_digit (get_or text (at + 1) 0) ≡ true → is_number (run text at) ≡ false
+pub led : (text : List ℕ) (at : ℕ) → get_or text at 0 ≡ 48 → is_digit (get_or text (at + 1) 0) ≡ true → NoNumber text at
 led text at z d = ap is_number (zero_run text at z ∙ ap (48 ∷◌) (run_more text (at + 1) d)) ∙ number_led (get_or text (at + 1) 0) (run text (at + 1 + 1))
 
 -- A NUMBER
-pub reads_zero : (text : List ℕ) (at : ℕ) → get_or text at 0 ≡ 48 → is_digit (get_or text (at + 1) 0) ≡ false → ReadsNumber text at true 0 (at + 1)
+pub reads_zero : (text : List ℕ) (at : ℕ) → get_or text at 0 ≡ 48 → is_digit (get_or text (at + 1) 0) ≡ false → ReadsNumber text at 0 (at + 1)
 unfolding value_from is_digit
 reads_zero text at z d =
     let e : run text at ≡ 48 ∷ [] = zero_run text at z ∙ ap (48 ∷◌) (run_none text (at + 1) d) in
-    record { decides = sym (ap is_number e ∙ number_zero); number = λ t. sym (ap value e); ends = λ t. omega (arith, ap length e) }
+    record { is = ap is_number e ∙ number_zero; number = sym (ap value e); ends = omega (arith, ap length e) }
 
-pub reads_all : (text : List ℕ) (at v i : ℕ) → get_or text at 0 ≢ 48 → at ≢ i → v ≤ 4294967295 → Counted text at v i → is_digit (get_or text i 0) ≡ false → ReadsNumber text at true v i
+pub reads_all : (text : List ℕ) (at v i : ℕ) → get_or text at 0 ≢ 48 → at ≢ i → v ≤ 4294967295 → Counted text at v i → is_digit (get_or text i 0) ≡ false → ReadsNumber text at v i
 unfolding value_from
 reads_all text at v i z ne h c d =
     record {
-      decides = sym (first (is_digit (get_or text at 0)) refl);
-      number = λ t. sym total;
-      ends = λ t. omega (arith, c.ends, ap length none);
+      is = first (is_digit (get_or text at 0)) refl;
+      number = sym total;
+      ends = omega (arith, c.ends, ap length none);
     }
   where
     none : run text i ≡ []

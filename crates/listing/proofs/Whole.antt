@@ -1,7 +1,7 @@
 -- A set and a whole listing from their sections.
 -- Assumes nothing.
 use Prim.Native.Nat.{ℕ, ◌-◌, ◌<◌, ◌≤◌}
-use mathlib.Core.Path.{◌≡◌, refl, sym, ap, ap₂, subst, ◌∙◌}
+use mathlib.Core.Path.{◌≡◌, refl, sym, ap, ap₂, ◌∙◌}
 use mathlib.Core.Bool.{true, false, cond}
 use mathlib.Core.List.{List, [], ◌∷◌}
 use lib.Dec.{T, eqb}
@@ -52,124 +52,104 @@ some_lines (b ∷ bs) = by_test (is_newline b) (λ e. ap (λ x. some (cond x ((b
 
 -- A SET
 module _ (text : List ℕ) (line at : ℕ) where
-  pub set_refused : (n k m l j : ℕ) (s : Shares) (p : ℕ) (w : List ℕ) → SharesRead text line at n k j s → (n ≡ 0 → ⊥) → m ≡ n → l ≡ k → SetRead text line at m l p w
+  pub set_refused : (n k j : ℕ) (s : Shares) (p : ℕ) (w : List ℕ) → SharesRead text line at n k j s → (n ≡ 0 → ⊥) → SetRead text line at n k p w
   unfolding set_at
-  set_refused n k m l j s p w r h e f =
-      record {
-        is = then_no _ regions_at n k (r.is ∙ heard_no n k _ h) ∙ ap₂ refused (sym e) (sym f) ∙ sym (heard_no m l _ (λ z. h (sym e ∙ z)));
-        goes = λ z. absurd (h (sym e ∙ z));
-      }
+  set_refused n k j s p w r h = record { is = then_no _ regions_at n k (r.is ∙ heard_no n k _ h) ∙ sym (heard_no n k _ h); goes = λ z. absurd (h z) }
 
-  module _ (n k j : ℕ) (s : Shares) (r : SharesRead text line at n k j s) (z : n ≡ 0) where
+  module _ (k j : ℕ) (s : Shares) (r : SharesRead text line at 0 k j s) where
     set_on : set_at (place_at text line at) ≡ regions_at (s, place_at text k j)
     unfolding set_at
-    set_on = then_yes _ regions_at _ (r.is ∙ heard_yes n k _ z)
+    set_on = then_yes _ regions_at _ (r.is ∙ heard_yes 0 k _ refl)
 
     own_open : (w : List ℕ) (m : ℕ) → length w ≡ 12288 → m ≡ open_no w s.sixteen → m ≡ open_set_no s.sixteen
     unfolding open_no
     own_open w m l e = e ∙ ap (λ b. image_first b (open_set_no s.sixteen)) (eq_yes (length w) 12288 l)
 
-    pub set_shares : (w w' : List ℕ) (m c l p : ℕ) → length w ≡ 12288 → OpensSet w s.sixteen m w' → (m ≡ 0 → ⊥) → c ≡ m → l ≡ k - 1 → SetRead text line at c l p w'
+    pub set_shares : (w w' : List ℕ) (m p : ℕ) → length w ≡ 12288 → OpensSet w s.sixteen m w' → (m ≡ 0 → ⊥) → SetRead text line at m (k - 1) p w'
     unfolding regions_at
-    set_shares w w' m c l p h o ne e f =
+    set_shares w w' m p h o ne =
         record {
           is =
               set_on
               ∙ ap (λ x. unless x (section region_no saved_line 500 (empty_set s.sixteen) (place_at text k j)) (refused x (k - 1))) (sym (own_open w m h o.number_is))
               ∙ unless_not m _ _ ne
-              ∙ ap₂ refused (sym e) (sym f)
-              ∙ sym (heard_no c l _ (λ q. ne (sym e ∙ q)));
-          goes = λ q. absurd (ne (sym e ∙ q));
+              ∙ sym (heard_no m (k - 1) _ ne);
+          goes = λ q. absurd (ne q);
         }
 
-    -- the opened image
-    pub set_opened : (w w' : List ℕ) (m : ℕ) → OpensSet w s.sixteen m w' → m ≡ 0 → T (valid w') × ((set_of w').regions ≡ [])
-    set_opened w w' m o e =
-        let v = opens_valid w s.sixteen w' r.sixteen_is (subst (λ x. OpensSet w s.sixteen x w') e o) in
-        (T_of v.0, ap (λ (S : Set). S.regions) v.1)
+    module _ (w w' : List ℕ) (o : OpensSet w s.sixteen 0 w') where
+      -- the opened image
+      pub set_opened : T (valid w') × ((set_of w').regions ≡ [])
+      set_opened =
+          let v = opens_valid w s.sixteen w' r.sixteen_is o in
+          (T_of v.0, ap (λ (S : Set). S.regions) v.1)
 
-    pub set_read : (w w' w'' : List ℕ) (m c l p : ℕ) → length w ≡ 12288 → OpensSet w s.sixteen m w' → m ≡ 0 → RegionsRead text k j w' c l p w'' → SetRead text line at c l p w''
-    unfolding regions_at
-    set_read w w' w'' m c l p h o e g =
-        let v = opens_valid w s.sixteen w' r.sixteen_is (subst (λ x. OpensSet w s.sixteen x w') e o) in
-        record {
-          is =
-              set_on
-              ∙ unless_done (open_set_no s.sixteen) _ _ (sym (own_open w m h o.number_is) ∙ e)
-              ∙ ap (λ S. section region_no saved_line 500 S (place_at text k j)) (sym v.1)
-              ∙ g.is;
-          goes = λ q. (g.goes q, g.stays_valid);
-        }
+      pub set_read : (w'' : List ℕ) (c l p : ℕ) → length w ≡ 12288 → RegionsRead text k j w' c l p w'' → SetRead text line at c l p w''
+      unfolding regions_at
+      set_read w'' c l p h g =
+          let v = opens_valid w s.sixteen w' r.sixteen_is o in
+          record {
+            is =
+                set_on
+                ∙ unless_done (open_set_no s.sixteen) _ _ (sym (own_open w 0 h o.number_is))
+                ∙ ap (λ S. section region_no saved_line 500 S (place_at text k j)) (sym v.1)
+                ∙ g.is;
+            goes = λ q. (g.goes q, g.stays_valid);
+          }
 
 -- A LISTING
 module _ (text outer inner : List ℕ) where
-  pub image_first_lem : lent outer inner ≡ false → (n l : ℕ) → n ≡ 1 → l ≡ 0 → ReadsListing text outer inner n l outer inner
-  image_first_lem e n l f g =
-      record {
-        number_is = rw e f;
-        line_is = rw e g;
-        refused_is = λ h. (refl, refl);
-        done = λ z. absurd (let q : ◌≡◌ {A = ℕ} 1 0 = sym f ∙ z in omega arith);
-      }
-
   module _ (lo : length outer ≡ 12288) (li : length inner ≡ 12288) where
     both : lent outer inner ≡ true
     both = rw (eq_yes (length outer) 12288 lo, eq_yes (length inner) 12288 li) refl
 
-    pub refused_with : (n l m k : ℕ) → listing_of text ≡ refused n l → (n ≡ 0 → ⊥) → m ≡ n → k ≡ l → ReadsListing text outer inner m k outer inner
+    pub refused_with : (n l : ℕ) → listing_of text ≡ refused n l → (n ≡ 0 → ⊥) → ReadsListing text outer inner n l outer inner
     unfolding number_of line_of
-    refused_with n l m k e h f g =
+    refused_with n l e h =
         record {
-          number_is = rw both (f ∙ sym (ap number_of e));
-          line_is = rw both (g ∙ sym (ap line_of e));
+          number_is = rw both (sym (ap number_of e));
+          line_is = rw both (sym (ap line_of e));
           refused_is = λ q. (refl, refl);
-          done = λ z. absurd (h (sym f ∙ z));
+          done = λ z. absurd (h z);
         }
 
-    pub oversized : (m k : ℕ) → most_bytes < length text → m ≡ 12 → k ≡ 0 → ReadsListing text outer inner m k outer inner
+    pub oversized : most_bytes < length text → ReadsListing text outer inner 12 0 outer inner
     unfolding listing_of
-    oversized m k h f g = refused_with 12 0 m k (ap (λ b. cond b (refused 12 0) (and_then (set_at (place_at text 1 0)) inner_at)) (lt_yes most_bytes (length text) h)) (λ z. omega arith) f g
+    oversized h = refused_with 12 0 (ap (λ b. cond b (refused 12 0) (and_then (set_at (place_at text 1 0)) inner_at)) (lt_yes most_bytes (length text) h)) (λ z. omega (arith, z))
 
     module _ (small : length text ≤ most_bytes) where
       lines_first : listing_of text ≡ and_then (set_at (place_at text 1 0)) inner_at
       unfolding listing_of
       lines_first = ap (λ b. cond b (refused 12 0) (and_then (set_at (place_at text 1 0)) inner_at)) (lt_no most_bytes (length text) small)
 
-      pub outer_refused : (n l p m k : ℕ) (w : List ℕ) → SetRead text 1 0 n l p w → (n ≡ 0 → ⊥) → m ≡ n → k ≡ l → ReadsListing text outer inner m k outer inner
-      outer_refused n l p m k w r h f g = refused_with n l m k (lines_first ∙ then_no _ inner_at n l (r.is ∙ heard_no n l _ h)) h f g
+      pub outer_refused : (n l p : ℕ) (w : List ℕ) → SetRead text 1 0 n l p w → (n ≡ 0 → ⊥) → ReadsListing text outer inner n l outer inner
+      outer_refused n l p w r h = refused_with n l (lines_first ∙ then_no _ inner_at n l (r.is ∙ heard_no n l _ h)) h
 
-      module _ (n l p : ℕ) (w : List ℕ) (r : SetRead text 1 0 n l p w) (z : n ≡ 0) where
+      module _ (l p : ℕ) (w : List ℕ) (r : SetRead text 1 0 0 l p w) where
         inner_on : listing_of text ≡ and_then (set_at (place_at text l p)) (ended (set_of w))
         unfolding inner_at
-        inner_on = lines_first ∙ then_yes _ inner_at _ (r.is ∙ heard_yes n l _ z)
+        inner_on = lines_first ∙ then_yes _ inner_at _ (r.is ∙ heard_yes 0 l _ refl)
 
-        pub inner_refused : (n' l' p' m k : ℕ) (w' : List ℕ) → SetRead text l p n' l' p' w' → (n' ≡ 0 → ⊥) → m ≡ n' → k ≡ l' → ReadsListing text outer inner m k outer inner
-        inner_refused n' l' p' m k w' r' h f g = refused_with n' l' m k (inner_on ∙ then_no _ (ended (set_of w)) n' l' (r'.is ∙ heard_no n' l' _ h)) h f g
+        pub inner_refused : (n l' p' : ℕ) (w' : List ℕ) → SetRead text l p n l' p' w' → (n ≡ 0 → ⊥) → ReadsListing text outer inner n l' outer inner
+        inner_refused n l' p' w' r' h = refused_with n l' (inner_on ∙ then_no _ (ended (set_of w)) n l' (r'.is ∙ heard_no n l' _ h)) h
 
-        module _ (n' l' p' : ℕ) (w' : List ℕ) (r' : SetRead text l p n' l' p' w') (z' : n' ≡ 0) where
+        module _ (l' p' : ℕ) (w' : List ℕ) (r' : SetRead text l p 0 l' p' w') where
           end_on : listing_of text ≡ ended (set_of w) (set_of w', place_at text l' p')
-          end_on = inner_on ∙ then_yes _ (ended (set_of w)) _ (r'.is ∙ heard_yes n' l' _ z')
+          end_on = inner_on ∙ then_yes _ (ended (set_of w)) _ (r'.is ∙ heard_yes 0 l' _ refl)
 
-          pub line_too_many : (m k : ℕ) → p' < length text → m ≡ 12 → k ≡ l' → ReadsListing text outer inner m k outer inner
+          pub line_too_many : p' < length text → ReadsListing text outer inner 12 l' outer inner
           unfolding ended
-          line_too_many m k h f g =
-              refused_with 12 l' m k (end_on ∙ ap (λ b. cond b (refused 12 l') (read (set_of w, set_of w'))) (some_lines (drop p' text) ∙ some_drop p' text ∙ lt_yes p' (length text) h)) (λ q. omega arith) f g
+          line_too_many h =
+              refused_with 12 l' (end_on ∙ ap (λ b. cond b (refused 12 l') (read (set_of w, set_of w'))) (some_lines (drop p' text) ∙ some_drop p' text ∙ lt_yes p' (length text) h)) (λ q. omega (arith, q))
 
-          pub all_read : (m k : ℕ) (o i : List ℕ) → length text ≤ p' → m ≡ 0 → k ≡ 0 → o ≡ w → i ≡ w' → ReadsListing text outer inner m k o i
+          pub all_read : (o i : List ℕ) → length text ≤ p' → o ≡ w → i ≡ w' → ReadsListing text outer inner 0 0 o i
           unfolding ended number_of line_of
-          all_read m k o i h f g e e' =
+          all_read o i h e e' =
               let q = end_on ∙ ap (λ b. cond b (refused 12 l') (read (set_of w, set_of w'))) (some_lines (drop p' text) ∙ some_drop p' text ∙ lt_no p' (length text) h) in
               record {
-                number_is = rw both (f ∙ sym (ap number_of q));
-                line_is = rw both (g ∙ sym (ap line_of q));
-                refused_is = λ x. absurd (x f);
+                number_is = rw both (sym (ap number_of q));
+                line_is = rw both (sym (ap line_of q));
+                refused_is = λ x. absurd (x refl);
                 done = λ x.
-                    (ap valid e ∙ of_T (valid w) (r.goes z).1, ap valid e' ∙ of_T (valid w') (r'.goes z').1, q ∙ ap₂ (λ a b. read (set_of a, set_of b)) (sym e) (sym e'));
+                    (ap valid e ∙ of_T (valid w) (r.goes refl).1, ap valid e' ∙ of_T (valid w') (r'.goes refl).1, q ∙ ap₂ (λ a b. read (set_of a, set_of b)) (sym e) (sym e'));
               }
-
--- an image of another length
-pub lent_outer : (outer inner : List ℕ) → (length outer ≡ 12288 → ⊥) → lent outer inner ≡ false
-lent_outer outer inner h = rw (eq_no (length outer) 12288 h)
-
-pub lent_inner : (outer inner : List ℕ) → (length inner ≡ 12288 → ⊥) → lent outer inner ≡ false
-lent_inner outer inner h = rw (eq_no (length inner) 12288 h) (and_false (eqb (length outer) 12288))

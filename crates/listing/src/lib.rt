@@ -3,175 +3,120 @@
 
 ghost use Rattle.std.specs.Prelude.{◌≤◌, ◌≡◌, [], T, length};
 ghost use Rattle.pages.specs.Layout.{image_words};
+ghost use Rattle.regions.specs.Refusals.{number_told};
 ghost use Rattle.image.specs.Read.{set_of};
 ghost use Rattle.image.specs.Valid.{valid};
 ghost use Rattle.changes.specs.Counts.{Counted};
 ghost use Rattle.form.specs.Steps.{Stands};
+ghost use Rattle.form.specs.Told.{told, number_heard, line_told};
 ghost use Rattle.listing.specs.Promise.{ReadsListing};
 ghost use Rattle.listing.specs.Steps.{Takes, RegionsRead, SetRead};
 
-// A refusal's number and line; 0 and 0 where the listing was read.
-#[derive(Clone, Copy)]
-pub struct Heard {
-    pub number: u32,
-    pub line: usize,
-}
+use form::RefusedLine;
+use regions::Refusal;
 
-// Where a section left off: the next line's number and first byte; or, where the number is not 0, the refusal's line.
-#[derive(Clone, Copy)]
+// The bytes of a listing at most.
+const MOST_BYTES: usize = 65536;
+
+// Where a section left off: the next line's number and first byte.
+#[derive(Clone, Copy, Debug, PartialEq, Eq)]
 pub struct Stand {
-    pub number: u32,
     pub line: usize,
     pub at: usize,
 }
 
-fn refused_at(number: u32, line: usize) -> Stand
-    ensures { (result.number ≡ number) × (result.line ≡ line) }
-{
-    Stand {
-        number,
-        line,
-        at: 0,
-    }
-}
-
-// One region line: its number, and the counts with the saved region's.
-#[derive(Clone, Copy)]
-pub struct Taken {
-    pub number: u32,
-    pub next: usize,
-    pub held: [u32; regions::ACCOUNT_COUNT],
-}
-
-fn not_taken(number: u32, held: [u32; regions::ACCOUNT_COUNT]) -> Taken
-    ensures { (result.number ≡ number) × (result.held ≡ held) }
-{
-    Taken {
-        number,
-        next: 0,
-        held,
-    }
-}
-
-// Saves the region of a line in its start's account. The image is valid all along, and the counts are kept, so that nothing is tested again.
+// Saves the region of a line in its start's account, and answers the byte behind the line. The image is valid all along, and the counts are kept, so that nothing is tested again.
 fn take_region(
     text: &[u8],
     at: usize,
     img: &mut [u32],
-    held: [u32; regions::ACCOUNT_COUNT],
-) -> Taken
+    held: &mut [u32; regions::ACCOUNT_COUNT],
+) -> Result<usize, Refusal>
     requires at_in_bounds { at ≤ length text.now }
-    requires counted { T (valid img.old) × Counted held img.old }
-    ensures { Takes text.now at img.old result.number result.next result.held img.new }
+    requires counted { T (valid img.old) × Counted held.old img.old }
+    ensures { Takes text.now at img.old (number_told result) (told (λ next. next) result) held.new img.new }
 {
-    let l = form::read_region(text, at);
-    if !l.ok {
-        return not_taken(regions::FORM, held);
-    }
-    let r = l.region;
-    let account = regions::account_of(r.start);
-    let kept = changes::save_kept(img, account, r, held);
-    let counts = kept.held;
-    Taken {
-        number: kept.number,
-        next: l.next,
-        held: counts,
-    }
+    let Some(l) = form::read_region(text, at) else {
+        return Err(Refusal::Form);
+    };
+    let account = regions::account_of(l.region.start);
+    changes::save_kept(img, account, l.region, held)?;
+    Ok(l.next)
 }
 
 // The regions' section, into an image that holds none yet.
-fn read_regions(text: &[u8], line: usize, at: usize, img: &mut [u32]) -> Stand
+fn read_regions(text: &[u8], line: usize, at: usize, img: &mut [u32]) -> Result<Stand, RefusedLine>
     requires stands { Stands text.now line at }
     requires img_empty { T (valid img.old) × ((set_of img.old).regions ≡ []) }
-    ensures { RegionsRead text.now line at img.old result.number result.line result.at img.new }
+    ensures { RegionsRead text.now line at img.old (number_heard result) (line_told (λ s. s.line) result) (told (λ s. s.at) result) img.new }
 {
-    let c = form::read_count(text, at, regions::MOST_REGIONS);
-    if c.number != 0 {
-        return refused_at(c.number, line);
-    }
+    let c = match form::read_count(text, at, regions::MOST_REGIONS) {
+        Ok(c) => c,
+        Err(refusal) => return Err(RefusedLine { refusal, line }),
+    };
     let mut held = [0u32; 16];
     let mut here = c.next;
-    let mut this = line + 1;
-    let mut i: usize = 0;
-    while i < c.count {
-        let t = take_region(text, here, img, held);
-        if t.number != 0 {
-            return refused_at(t.number, this);
-        }
-        held = t.held;
-        here = t.next;
-        this += 1;
-        i += 1;
+    let end = line + 1 + c.count;
+    for this in line + 1..end {
+        here = match take_region(text, here, img, &mut held) {
+            Ok(next) => next,
+            Err(refusal) => {
+                return Err(RefusedLine {
+                    refusal,
+                    line: this,
+                });
+            }
+        };
     }
-    Stand {
-        number: 0,
-        line: this,
+    Ok(Stand {
+        line: end,
         at: here,
-    }
+    })
 }
 
 // A set: its shares, with which the image is opened, and its regions.
-fn read_set(text: &[u8], line: usize, at: usize, img: &mut [u32]) -> Stand
+fn read_set(text: &[u8], line: usize, at: usize, img: &mut [u32]) -> Result<Stand, RefusedLine>
     requires stands { Stands text.now line at }
     requires img_len { length img.old ≡ image_words }
-    ensures { SetRead text.now line at result.number result.line result.at img.new }
+    ensures { SetRead text.now line at (number_heard result) (line_told (λ s. s.line) result) (told (λ s. s.at) result) img.new }
 {
-    let g = form::read_shares(text, line, at);
-    let shares = g.shares;
-    if g.number != 0 {
-        return refused_at(g.number, g.line);
+    let g = form::read_shares(text, line, at)?;
+    match index::open_set(img, g.shares) {
+        Ok(()) => read_regions(text, g.line, g.at, img),
+        Err(refusal) => Err(RefusedLine {
+            refusal,
+            line: g.line - 1,
+        }),
     }
-    let opened = index::open_set(img, shares);
-    if opened != 0 {
-        return refused_at(opened, g.line - 1);
-    }
-    read_regions(text, g.line, g.at, img)
-}
-
-fn copy_words(from: &[u32], to: &mut [u32])
-    requires { length from.now ≡ length to.old }
-    ensures { to.new ≡ from.now }
-{
-    let mut i: usize = 0;
-    while i < to.len() {
-        to[i] = from[i];
-        i += 1;
-    }
-}
-
-fn told(number: u32, line: usize) -> Heard
-    ensures { (result.number ≡ number) × (result.line ≡ line) }
-{
-    Heard { number, line }
 }
 
 // READS A LISTING into two lent images. Both sets are made in images of its own and copied out at the end, since a refusal may leave no lent word changed.
-pub fn read_listing(text: &[u8], outer: &mut [u32], inner: &mut [u32]) -> Heard
-    ensures { ReadsListing text.now outer.old inner.old result.number result.line outer.new inner.new }
+pub fn read_listing(text: &[u8], outer: &mut [u32], inner: &mut [u32]) -> Result<(), RefusedLine>
+    ensures { ReadsListing text.now outer.old inner.old (number_heard result) (line_told (λ u. 0) result) outer.new inner.new }
 {
-    if outer.len() != pages::IMAGE_WORDS {
-        return told(regions::IMAGE, 0);
+    if outer.len() != pages::IMAGE_WORDS || inner.len() != pages::IMAGE_WORDS {
+        return Err(RefusedLine {
+            refusal: Refusal::Image,
+            line: 0,
+        });
     }
-    if inner.len() != pages::IMAGE_WORDS {
-        return told(regions::IMAGE, 0);
-    }
-    if 65536 < text.len() {
-        return told(regions::FORM, 0);
+    if MOST_BYTES < text.len() {
+        return Err(RefusedLine {
+            refusal: Refusal::Form,
+            line: 0,
+        });
     }
     let mut first = [0u32; pages::IMAGE_WORDS];
     let mut second = [0u32; pages::IMAGE_WORDS];
-    let a = read_set(text, 1, 0, &mut first);
-    if a.number != 0 {
-        return told(a.number, a.line);
-    }
-    let b = read_set(text, a.line, a.at, &mut second);
-    if b.number != 0 {
-        return told(b.number, b.line);
-    }
+    let a = read_set(text, 1, 0, &mut first)?;
+    let b = read_set(text, a.line, a.at, &mut second)?;
     if b.at < text.len() {
-        return told(regions::FORM, b.line);
+        return Err(RefusedLine {
+            refusal: Refusal::Form,
+            line: b.line,
+        });
     }
-    copy_words(&first, outer);
-    copy_words(&second, inner);
-    told(0, 0)
+    outer.copy_from_slice(&first);
+    inner.copy_from_slice(&second);
+    Ok(())
 }

@@ -6,17 +6,17 @@ ghost use Rattle.std.specs.Prelude.{◌≡◌, ◌≤◌, T, length};
 ghost use Rattle.regions.specs.Limits.{buffer_words, last_account};
 ghost use Rattle.image.specs.Valid.{valid};
 
+use form::RefusedLine;
 use regions::Mark;
 use std::io;
 use std::io::Read;
 use std::rt::{Env, Files};
 
-fn refused(rt: &impl Print, n: u32, line: usize) -> io::Result<()> {
-    console::text(rt, b"refused ")?;
-    console::number(rt, words::wide(n))?;
-    console::text(rt, b" ")?;
-    console::number(rt, line)?;
-    console::text(rt, b"\n")
+// The first refusal, by its number, and its line.
+fn refused(rt: &impl Print, at: RefusedLine) -> io::Result<()> {
+    let number = u32::from(at.refusal);
+    let line = at.line;
+    println!(rt; "refused {number} {line}")
 }
 
 // One account's pairs, batch after batch until one is empty.
@@ -58,10 +58,8 @@ fn print_account(rt: &impl Print, outer: &[u32], inner: &[u32], account: u32) ->
 fn print_join(rt: &impl Print, outer: &[u32], inner: &[u32]) -> io::Result<()>
     requires { T (valid outer.now) × T (valid inner.now) }
 {
-    let mut account: u32 = 0;
-    while account < 16 {
+    for account in 0..=regions::LAST_ACCOUNT {
         print_account(rt, outer, inner, account)?;
-        account += 1;
     }
     Ok(())
 }
@@ -70,11 +68,10 @@ fn print_join(rt: &impl Print, outer: &[u32], inner: &[u32]) -> io::Result<()>
 fn answer(rt: &impl Print, listing: &[u8]) -> io::Result<()> {
     let mut outer = [0u32; pages::IMAGE_WORDS];
     let mut inner = [0u32; pages::IMAGE_WORDS];
-    let heard = listing::read_listing(listing, &mut outer, &mut inner);
-    if heard.number != 0 {
-        return refused(rt, heard.number, heard.line);
+    match listing::read_listing(listing, &mut outer, &mut inner) {
+        Ok(()) => print_join(rt, &outer, &inner),
+        Err(at) => refused(rt, at),
     }
-    print_join(rt, &outer, &inner)
 }
 
 // The listing that a file holds, with one byte more than a listing may have, so that a longer one is seen to be too long.
@@ -85,10 +82,7 @@ fn answer_file(rt: &impl Print, file: &mut impl Read) -> io::Result<()> {
 }
 
 fn is_dash(name: &[u8]) -> bool {
-    if name.len() != 1 {
-        return false;
-    }
-    name[0] == b'-'
+    name.len() == 1 && name[0] == b'-'
 }
 
 // The listing that an argument names. Where it cannot be opened, that is told on standard error, and the next one is answered.
@@ -117,10 +111,8 @@ fn main(rt: HostRuntime) -> io::Result<()> {
     if count < 2 {
         return answer_file(&rt, &mut rt.reader());
     }
-    let mut i: usize = 1;
-    while i < count {
+    for i in 1..count {
         answer_argument(&rt, &rt.stderr(), i)?;
-        i += 1;
     }
     Ok(())
 }

@@ -19,28 +19,24 @@ fn walk_list(
     p: u32,
     task: Task,
     out: &mut [u32],
-    start: Tally,
-) -> Tally
-    requires { Small 40000 start }
-    ensures { Tallied task out.old start (held_from img.now choice p 501 head) (looked_from img.now choice p 501 head) out.new result }
+    t: &mut Tally,
+)
+    requires { Small 40000 t.old }
+    ensures { Tallied task out.old t.old (held_from img.now choice p 501 head) (looked_from img.now choice p 501 head) out.new t.new }
 {
-    let mut t = start;
     let mut q = head;
-    let mut n: usize = 0;
-    while n < 501 {
+    for _ in 0..501usize {
         if q == 0 {
-            return t;
+            return;
         }
         let a = pages::record_region(img, q);
-        t = tally::step(t);
+        t.step();
         if !regions::holds(choice, p, a) {
-            return t;
+            return;
         }
-        t = tally::visit(task, a, out, t);
+        t.visit(task, a, out);
         q = pages::record_next(img, q);
-        n += 1;
     }
-    t
 }
 
 // The list of key i: read only where p lies between the two positions of its stored pair, since otherwise nothing in it holds p.
@@ -52,17 +48,17 @@ fn key_list(
     p: u32,
     task: Task,
     out: &mut [u32],
-    t: Tally,
-) -> Tally
+    t: &mut Tally,
+)
     requires i_bound { i < 9 }
-    requires small { Small 40000 t }
-    ensures { Tallied task out.old t (run choice p (key_in img.now page i)) (cost choice p (key_in img.now page i)) out.new result }
+    requires small { Small 40000 t.old }
+    ensures { Tallied task out.old t.old (run choice p (key_in img.now page i)) (cost choice p (key_in img.now page i)) out.new t.new }
 {
     let k = pages::key_words(img, page, i);
     if !regions::spans(choice, p, k.start, k.end) {
-        return t;
+        return;
     }
-    walk_list(img, k.head, choice, p, task, out, t)
+    walk_list(img, k.head, choice, p, task, out, t);
 }
 
 // The lists of an inner page, key by key from the left, up to the first key beyond p, whose list may hold ancestors too. Outer regions stand with lower keys, so they are met first.
@@ -73,21 +69,17 @@ pub fn page_lists(
     p: u32,
     task: Task,
     out: &mut [u32],
-    start: Tally,
-) -> Tally
+    t: &mut Tally,
+)
     requires page_bound { fill_of (page_of img.now page) ≤ 8 }
-    requires small { Small 30000 start }
-    ensures { Tallied task out.old start (lists_met img.now choice p page) (lists_looked img.now choice p page) out.new result }
+    requires small { Small 30000 t.old }
+    ensures { Tallied task out.old t.old (lists_met img.now choice p page) (lists_looked img.now choice p page) out.new t.new }
 {
-    let n = words::wide(pages::fill(img, page));
-    let mut t = start;
-    let mut i: usize = 0;
-    while i < n {
-        t = key_list(img, page, i, choice, p, task, out, t);
+    let n = pages::fill(img, page) as usize;
+    for i in 0..n {
+        key_list(img, page, i, choice, p, task, out, t);
         if p < pages::key_number(img, page, i) {
-            return t;
+            return;
         }
-        i += 1;
     }
-    t
 }

@@ -72,9 +72,6 @@ module _ {w : List ℕ} {q j inner : ℕ} (s : ThinLeft w q j inner) where
   inner_most = omega (arith, c.level, moved_most c.h)
 
   module _ (n : ℕ) (e : n ≡ fill_of (page_of w (child_in (page_of w q) (j + 1)))) where
-    pub left_few : n + inner ≤ 9
-    left_few = omega (arith, right_size c n e, right_bounds.1, inner_most)
-
     -- the right one fits in
     pub left_joins : n + inner ≤ 5 → MergeAsk w q j inner
     left_joins l = let z = right_size c n e in merge_now c (omega (arith, s.three))
@@ -86,20 +83,20 @@ module _ {w : List ℕ} {q j inner : ℕ} (s : ThinLeft w q j inner) where
         merged_now c f s.kids b.2 (omega (arith, s.three, b.0)) (omega (arith, s.three))
 
     -- it lends
-    abbrev pub lend_right : (w₁ : List ℕ) → 5 < n + inner → SplitAsk w q (j + 1) (1 - inner) inner
-    lend_right w₁ l =
+    abbrev pub lend_right : (w₁ : List ℕ) (k : ℕ) → k + inner ≡ 1 → 5 < n + inner → SplitAsk w q (j + 1) k inner
+    lend_right w₁ k m l =
         record { h = c.h; level = c.level; child_at = right_now c w₁; room = c.room; low = omega arith; high = omega (arith, right_size c n e, inner_most) }
 
-    pub right_lends : 5 < n + inner → SplitAsk w q (j + 1) (1 - inner) inner
-    right_lends l = lend_right w l
+    pub right_lends : (k : ℕ) → k + inner ≡ 1 → 5 < n + inner → SplitAsk w q (j + 1) k inner
+    right_lends k m l = lend_right w k m l
 
-    module _ (w₁ : List ℕ) (l : 5 < n + inner) (f : (a : SplitAsk w q (j + 1) (1 - inner) inner) → Split w w₁ a.h q (j + 1) (1 - inner) a.child_at) where
-      abbrev pub cut : Split w w₁ c.h q (j + 1) (1 - inner) (right_now c w₁)
-      cut = f (lend_right w₁ l)
+    module _ (w₁ : List ℕ) (k : ℕ) (m : k + inner ≡ 1) (l : 5 < n + inner) (f : (a : SplitAsk w q (j + 1) k inner) → Split w w₁ a.h q (j + 1) k a.child_at) where
+      abbrev pub cut : Split w w₁ c.h q (j + 1) k (right_now c w₁)
+      cut = f (lend_right w₁ k m l)
 
       abbrev pub lent_pair : PairAt w₁ c.h q j
       lent_pair =
-          pair_left w w w₁ u.rs c.h u.lo u.hi q u.pre u.post u.o (pair_page u) u.left u.key u.right (still c) (j + 1) (1 - inner) (next_index c) cut j u.index
+          pair_left w w w₁ u.rs c.h u.lo u.hi q u.pre u.post u.o (pair_page u) u.left u.key u.right (still c) (j + 1) k (next_index c) cut j u.index
 
       abbrev pub lent_ask : MergeAsk w₁ q j inner
       lent_ask = record { h = c.h; level = c.level; pair = lent_pair; fit = omega (arith, s.three, cut.size_left, inner_most) }
@@ -109,7 +106,7 @@ module _ {w : List ℕ} {q j inner : ℕ} (s : ThinLeft w q j inner) where
 
       pub left_took : {w₂ : List ℕ} → ((m : MergeAsk w₁ q j inner) → Merged w₁ w₂ m.h q j m.pair) → PairMended w₂ c
       left_took {w₂} g =
-          mend_lend_right w w w₁ u.rs c.h u.lo u.hi q u.pre u.post u.o (pair_page u) u.left u.key u.right (still c) (j + 1) (1 - inner) (next_index c) cut w₂ j u.index
+          mend_lend_right w w w₁ u.rs c.h u.lo u.hi q u.pre u.post u.o (pair_page u) u.left u.key u.right (still c) (j + 1) k (next_index c) cut w₂ j u.index
           (g lent_ask) c.others s.kids s.three s.near (omega (arith, right_size c n e, c.level)) (omega (arith, c.level, inner_most))
 
 -- THE RIGHT ONE HOLDS THREE
@@ -127,9 +124,6 @@ module _ {w : List ℕ} {q j inner : ℕ} (s : ThinRight w q j inner) where
   level_most = omega (arith, d.level, moved_most d.h)
 
   module _ (n : ℕ) (e : n ≡ fill_of (page_of w (child_in (page_of w q) j))) where
-    pub right_few : n + inner ≤ 9
-    right_few = omega (arith, left_size d n e, left_bounds.1, level_most)
-
     pub right_joins : n + inner ≤ 5 → MergeAsk w q j inner
     right_joins l = let z = left_size d n e in merge_now d (omega (arith, s.three))
 

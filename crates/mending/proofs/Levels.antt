@@ -55,12 +55,12 @@ module _ (w : List ℕ) (q i c inner : ℕ) where
         room = r.few;
         low = low;
         high = high;
-        free_page_lem = omega (arith, r.pages);
+        free_page = omega (arith, r.pages);
         free_records = omega (arith, split_records w s.rs s.lo s.hi q s.pre s.post s.child s.o s.stands r.records, idle_long s.child);
       }
 
   abbrev pub inner_ready : (h : ℕ) (s : ChildAt w (suc h) q i) → RoomAt (suc h) s → c < length s.child.kids → InnerReady w h q i c
-  inner_ready h s r high = record { child_at = s; nested = r.nested; room = r.few; high = high; free_page_lem = omega (arith, r.pages) }
+  inner_ready h s r high = record { child_at = s; nested = r.nested; room = r.few; high = high; free_page = omega (arith, r.pages) }
 
   pub leaf_at_lem : (h : ℕ) → moved h ≡ inner → (s : ChildAt w h q i) → RoomAt h s → 1 ≤ c + inner → c < size h s.child → inner ≡ 0 → LeafReady w q i c
   leaf_at_lem zero l s r low high z = leaf_ready s r (omega arith) high

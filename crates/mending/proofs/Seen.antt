@@ -21,8 +21,8 @@ use Rattle.room.specs.Ways.{OnWay}
 use Rattle.split.proofs.Seen.{child_is, child_stands}
 
 -- what a child's words say, read in steps
-pub child_read : (w : List ℕ) (q i p n m : ℕ) → p ≡ child_in (page_of w q) i → n ≡ fill_of (page_of w p) → m ≡ n → m ≡ fill_of (page_of w (child_in (page_of w q) i))
-child_read w q i p n m a b e = e ∙ b ∙ ap (λ z. fill_of (page_of w z)) a
+pub child_read : (w : List ℕ) (q i p n : ℕ) → p ≡ child_in (page_of w q) i → n ≡ fill_of (page_of w p) → n ≡ fill_of (page_of w (child_in (page_of w q) i))
+child_read w q i p n a b = b ∙ ap (λ z. fill_of (page_of w z)) a
 
 -- HOW MUCH A PAGE HOLDS
 pub fill_size : (w : List ℕ) (h : ℕ) (t : Tree h) → Held w h t → fill_of (page_of w (place_of h t)) ≡ size h t

@@ -8,6 +8,8 @@ use Rattle.xrtree.specs.Claims.{Over}
 use Rattle.xrtree.specs.Holes.{Post, fill}
 use Rattle.standing.specs.Stands.{Around, Stands}
 use Rattle.steps.specs.Steps.{size, KidsFilled, moved, ChildAt, page_here, PairAt}
+use Rattle.mending.specs.declared.Tier.{Tier}
+use Rattle.mending.specs.declared.Tier.TheVariants.{Leaves, Inners}
 use Rattle.room.specs.Ways.{Filled, Others, OnWay, RecordRoom, PageRoom, Mended}
 
 -- the page of two neighbours
@@ -21,7 +23,12 @@ pub record Room (rs : List Region) (h lo hi : ℕ) (t : Tree (suc h)) (o : Aroun
   pub pages : PageRoom 1 (suc h) t o
   pub records : RecordRoom rs lo hi o
 
--- inner is 0 for leaves, 1 for inner pages
+-- a tier's number: how many keys come down between two pages that become one
+abbrev pub keys_down : Tier → ℕ
+keys_down Leaves = 0
+keys_down Inners = 1
+
+-- inner is the number of a tier: 0 for leaves, 1 for inner pages
 pub record SplitAsk (w : List ℕ) (q i c inner : ℕ) : Type 0 where
   pub h : ℕ
   pub level : moved h ≡ inner

@@ -1,10 +1,8 @@
 -- One region of the pass: it takes one of its account's share, and its end and level go onto a stack of those that have not ended.
 -- Assumes nothing.
-use Rattle.std.specs.Prelude.{ℕ, zero, suc, ◌-◌, ◌<◌, ◌≡◌, cond, Bool, true, false, ◌&&◌, List, [], ◌∷◌, get_or, length, set, ltb}
-use Rattle.regions.specs.Limits.{most_around}
+use Rattle.std.specs.Prelude.{ℕ, zero, suc, ◌-◌, cond, Bool, true, ◌&&◌, List, [], ◌∷◌, get_or, set, ltb, Option, Some, None}
 use Rattle.regions.specs.Positions.{account, well_formed}
 use Rattle.regions.specs.declared.Region.{Region}
-use Rattle.nesting.specs.declared.Way.{Way}
 
 -- what is kept of a region until it has ended
 pub record Around : Type 0 where
@@ -31,15 +29,11 @@ under r (t ∷ ts) = ltb r.end t.end && ltb t.level r.level
 
 -- how far the pass has come: what has not ended, and what is left of each account's share
 pub record Passed : Type 0 where
-  pub ok : Bool
   pub around : List Around
   pub left : List ℕ
 
-abbrev pub refused : Passed
-refused = record { ok = false; around = []; left = [] }
-
 abbrev pub going : List Around → List ℕ → Passed
-going around left = record { ok = true; around = around; left = left }
+going around left = record { around = around; left = left }
 
 -- what is left of the share of a region's account, and once the region has taken one
 abbrev pub left_for : Region → List ℕ → ℕ
@@ -48,21 +42,9 @@ left_for r left = get_or left (account r.start) 0
 abbrev pub take_one : Region → List ℕ → List ℕ
 take_one r left = set left (account r.start) (left_for r left - 1)
 
-unfoldable pub enter : Region → Passed → Passed
+-- the pass behind a region, or none where a test fails
+unfoldable pub enter : Region → Passed → Option Passed
 enter r s =
-    cond (s.ok && (well_formed r && (ltb 0 (left_for r s.left) && under r (pop r.start s.around))))
-    (going (kept r ∷ pop r.start s.around) (take_one r s.left))
-    refused
-
--- what the code holds, and what is lent to it, as a state of the pass
-unfoldable pub passed : Way → List ℕ → List ℕ → List ℕ → Passed
-passed s ends levels left = cond s.ok (going (stack_of ends levels s.top) left) refused
-
-abbrev pub shut : Way
-shut = record { ok = false; top = 0 }
-
--- a place for each level; and levels rise inwards, so the one in place k is above k, and the next place is still there
-pub record Fitting (s : Way) (ends levels : List ℕ) : Type 0 where
-  pub ends_long : length ends ≡ most_around
-  pub levels_long : length levels ≡ most_around
-  pub above : (k : ℕ) → k < s.top → k < get_or levels k 0
+    cond (well_formed r && (ltb 0 (left_for r s.left) && under r (pop r.start s.around)))
+    (Some (going (kept r ∷ pop r.start s.around) (take_one r s.left)))
+    None

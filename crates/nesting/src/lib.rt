@@ -1,69 +1,70 @@
 // One region after the other, in ascending start: whether it is well formed, nests in those around it with a level above theirs, and fits in what is left of its account's share.
 #![tactic(auto)]
 
-ghost use Rattle.std.specs.Prelude.{◌≡◌, ℕ, ◌≤◌, List};
-ghost use Rattle.nesting.specs.Pass.{pop, stack_of, enter, passed, shut, Fitting};
+ghost use Rattle.std.specs.Prelude.{ℕ, ◌≡◌, ◌<◌, ◌≤◌, List, [], get_or};
+ghost use Rattle.nesting.specs.Pass.{pop, stack_of, enter, going};
 
-use regions::Region;
+use regions::{Region, Shares};
 
-// How far the pass has come: whether all went well, and how many regions have not ended.
-#[derive(Clone, Copy)]
-pub struct Way {
-    pub ok: bool,
+// How far a pass has come: where those regions end that have not ended, outermost first, with their levels, in the first `top` places; and what is left of
+// each account's share. Levels rise inwards, so that the one in place k is above k, and the next place is still there.
+#[derive(Drop)]
+pub struct Pass {
+    pub ends: [u32; regions::MOST_AROUND],
+    pub levels: [u8; regions::MOST_AROUND],
     pub top: usize,
+    pub left: Shares,
+    pub ghost above: { (k : ℕ) → k < top → k < get_or levels k 0 },
 }
 
-// How many are left once those that end before s are closed. (Their levels are closed with them, and not looked at.)
-fn popped(ends: &[u32], top: usize, s: u32) -> usize
-    ensures { (result ≤ top) × ((levels : List ℕ) → stack_of ends.now levels result ≡ pop s (stack_of ends.now levels top)) }
-{
-    let mut t = top;
-    while 0 < t {
-        if s <= words::word(ends, t - 1) {
-            return t;
-        }
-        t -= 1;
-    }
-    t
-}
+impl Pass {
+    ghost use Rattle.nesting.specs.State.{state_of, told};
 
-// A pass that was refused: it says so to the end, whatever comes.
-fn closed() -> Way
-    ensures { result ≡ shut }
-{
-    Way { ok: false, top: 0 }
-}
+    // Before the first region: nothing is around yet.
+    pub fn new(left: Shares) -> Pass
+        ensures { state_of result ≡ going [] left }
+    {
+        Pass {
+            ends: [0; regions::MOST_AROUND],
+            levels: [0; regions::MOST_AROUND],
+            top: 0,
+            left,
+        }
+    }
 
-// The region that comes next. Of those around it the innermost ends first and has the highest level, so that it alone is asked.
-pub fn enter_one(r: Region, ends: &mut [u32], levels: &mut [u8], left: &mut [u32], o: Way) -> Way
-    requires { Fitting o ends.old levels.old }
-    ensures { (passed result ends.new levels.new left.new ≡ enter r (passed o ends.old levels.old left.old)) × Fitting result ends.new levels.new }
-{
-    if !o.ok {
-        return closed();
-    }
-    if !regions::well_formed(r) {
-        return closed();
-    }
-    let account = words::wide(regions::account_of(r.start));
-    let share = words::word(left, account);
-    if share == 0 {
-        return closed();
-    }
-    let end = r.end;
-    let level = r.level as u8;
-    let t = popped(ends, o.top, r.start);
-    if 0 < t {
-        if words::word(ends, t - 1) <= end {
-            return closed();
+    // How many are left once those that end before s are closed. (Their levels are closed with them, and not looked at.)
+    fn popped(&self, s: u32) -> usize
+        ensures { (result ≤ self.now.top) × (stack_of self.now.ends self.now.levels result ≡ pop s (stack_of self.now.ends self.now.levels self.now.top)) }
+    {
+        for t in (0..self.top).rev() {
+            if s <= self.ends[t] {
+                return t + 1;
+            }
         }
-        if level <= levels[t - 1] {
-            return closed();
-        }
+        0
     }
-    ends[t] = end;
-    levels[t] = level;
-    left[account] = share - 1;
-    let top = t + 1;
-    Way { ok: true, top: top }
+
+    // The region that comes next. Of those around it the innermost ends first and has the highest level, so that it alone is asked.
+    pub fn enter(&mut self, r: Region) -> Option<()>
+        ensures { told result self.new ≡ enter r (state_of self.old) }
+    {
+        if !regions::well_formed(r) {
+            return None;
+        }
+        let account = regions::account_of(r.start) as usize;
+        let share = self.left[account];
+        if share == 0 {
+            return None;
+        }
+        let level = r.level as u8;
+        let t = self.popped(r.start);
+        if 0 < t && (self.ends[t - 1] <= r.end || level <= self.levels[t - 1]) {
+            return None;
+        }
+        self.ends[t] = r.end;
+        self.levels[t] = level;
+        self.left[account] = share - 1;
+        self.top = t + 1;
+        Some(())
+    }
 }

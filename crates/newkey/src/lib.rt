@@ -13,10 +13,7 @@ fn is_fresh(ws: Page, j: usize, k: u32) -> bool
     requires { j < 9 }
     ensures { result ≡ fresh_at k (entry_at ws j) }
 {
-    if pagewords::flag_in(ws, j) != 0 {
-        return false;
-    }
-    regions::stabs(k, pagewords::entry_in(ws, j))
+    pagewords::flag_in(ws, j) == 0 && regions::stabs(k, pagewords::entry_in(ws, j))
 }
 
 // Of the first n entries, those in no list that k stabs come into k's list: from the last to the first, so that each goes in front.
@@ -30,9 +27,7 @@ pub fn gather(img: &mut [u32], leaf: Page, n: usize, k: u32) -> KeyWords
         end: 0,
         head: 0,
     };
-    let mut j = n;
-    while j > 0 {
-        j -= 1;
+    for j in (0..n).rev() {
         if is_fresh(leaf, j, k) {
             let r = pagewords::entry_in(leaf, j);
             key = records::push(img, key, r);
@@ -47,14 +42,12 @@ pub fn flagged(leaf: Page, n: usize, k: u32) -> Page
     ensures { Flagged leaf n k result }
 {
     let mut ws = leaf;
-    let mut j: usize = 0;
-    while j < n {
+    for j in 0..n {
         let r = pagewords::entry_in(leaf, j);
         if regions::stabs(k, r) {
             let s = newpages::set_flag(ws, j, 1);
             ws = s;
         }
-        j += 1;
     }
     ws
 }

@@ -12,7 +12,7 @@ pub fn leaf_without(ws: Page, i: usize) -> Page
     requires { (fill_of ws ≤ 9) × (i < fill_of ws) }
     ensures { IsLeaf result (mark_of ws) (fill_of ws - 1) (next_of ws) (taken_out i (entries_of ws)) (taken_out i (spares_of ws)) }
 {
-    let m = words::wide(ws[1]) - (i + 1);
+    let m = ws[1] as usize - (i + 1);
     let a = pages::entry_word(i);
     let moved = pagewords::copied(ws, a, ws, a + pages::ENTRY_WIDTH, pages::ENTRY_WIDTH * m);
     pagewords::headed(moved, ws[0], ws[1] - 1, ws[2])
@@ -31,7 +31,7 @@ pub fn leaf_right(ws: Page, c: usize) -> Page
     requires { (fill_of ws ≤ 9) × (c ≤ fill_of ws) }
     ensures { IsLeaf result 1 (fill_of ws - c) (next_of ws) (drop c (entries_of ws)) (drop c (spares_of ws)) }
 {
-    let m = words::wide(ws[1]) - c;
+    let m = ws[1] as usize - c;
     let a = pages::entry_word(c);
     let moved = pagewords::copied(ws, pages::HEAD_WIDTH, ws, a, pages::ENTRY_WIDTH * m);
     pagewords::headed(moved, 1, m as u32, ws[2])
@@ -42,8 +42,8 @@ pub fn leaf_joined(left: Page, right: Page) -> Page
     requires { fill_of left + fill_of right ≤ 9 }
     ensures { IsLeaf result (mark_of left) (fill_of left + fill_of right) (next_of right) (entries_of left ++ entries_of right) (spares_of left ++ spares_of right) }
 {
-    let a = pages::entry_word(words::wide(left[1]));
-    let n = words::wide(right[1]);
+    let a = pages::entry_word(left[1] as usize);
+    let n = right[1] as usize;
     let moved = pagewords::copied(left, a, right, pages::HEAD_WIDTH, pages::ENTRY_WIDTH * n);
     pagewords::headed(moved, left[0], left[1] + right[1], right[2])
 }
@@ -62,7 +62,7 @@ pub fn inner_with(ws: Page, i: usize, k: KeyWords, child: u32) -> Page
     requires { (fill_of ws ≤ 8) × (i ≤ fill_of ws) }
     ensures { IsInner result (mark_of ws) (suc (fill_of ws)) (next_of ws) (put_in i k (keys_of ws)) (put_in (suc i) child (children_of ws)) }
 {
-    let n = words::wide(ws[1]);
+    let n = ws[1] as usize;
     let a = pages::key_word(i);
     let put = pagewords::put_key(ws, a, k);
     let mut keyed = pagewords::copied(put, a + pages::KEY_WIDTH, ws, a, pages::KEY_WIDTH * (n - i));
@@ -77,7 +77,7 @@ pub fn inner_without(ws: Page, i: usize) -> Page
     requires { (fill_of ws ≤ 9) × (i < fill_of ws) }
     ensures { IsInner result (mark_of ws) (fill_of ws - 1) (next_of ws) (taken_out i (keys_of ws)) (taken_out (suc i) (children_of ws)) }
 {
-    let m = words::wide(ws[1]) - (i + 1);
+    let m = ws[1] as usize - (i + 1);
     let a = pages::key_word(i);
     let keyed = pagewords::copied(ws, a, ws, a + pages::KEY_WIDTH, pages::KEY_WIDTH * m);
     let b = pages::child_word(i + 1);
@@ -98,7 +98,7 @@ pub fn inner_right(ws: Page, c: usize) -> Page
     requires { (fill_of ws ≤ 9) × (c < fill_of ws) }
     ensures { IsInner result 1 (fill_of ws - suc c) (next_of ws) (drop (suc c) (keys_of ws)) (drop (suc c) (children_of ws)) }
 {
-    let m = words::wide(ws[1]) - (c + 1);
+    let m = ws[1] as usize - (c + 1);
     let a = pages::key_word(c + 1);
     let keyed = pagewords::copied(ws, pages::HEAD_WIDTH, ws, a, pages::KEY_WIDTH * m);
     let b = pages::child_word(c + 1);
@@ -111,8 +111,8 @@ pub fn inner_joined(left: Page, k: KeyWords, right: Page) -> Page
     requires { fill_of left + fill_of right ≤ 8 }
     ensures { IsInner result (mark_of left) (suc (fill_of left + fill_of right)) (next_of left) (keys_of left ++ k ∷ keys_of right) (children_of left ++ children_of right) }
 {
-    let m = words::wide(left[1]);
-    let n = words::wide(right[1]);
+    let m = left[1] as usize;
+    let n = right[1] as usize;
     let a = pages::key_word(m);
     let put = pagewords::put_key(left, a, k);
     let keyed = pagewords::copied(

@@ -4,9 +4,8 @@ use Prim.Native.Nat.{ℕ, suc, ◌+◌, ◌-◌, ◌≤◌, ◌<◌}
 use mathlib.Core.Path.{◌≡◌, refl, sym, ap, ◌∙◌, subst}
 use mathlib.Core.Bool.{Bool, true, false}
 use mathlib.Core.List.{List, [], ◌∷◌}
-use lib.Dec.{leb}
-use lib.ListN.{length, get_or, take, drop, length-take, drop_of_length-le}
-use lib.Seq.{drop-cons, get_or-take}
+use lib.ListN.{length, get_or, drop, drop_of_length-le}
+use lib.Seq.{drop-cons}
 use native.Mathlib.Omega.{arith}
 use Rattle.words.specs.Lists.{All}
 use Rattle.words.proofs.Tests.{lt_yes, lt_no}
@@ -42,72 +41,46 @@ pass_on ws x n i k c l e h =
     at_key_lem : (m : ℕ) → get_or ws (key_word i) 0 < x → below_from ws x i (suc m) ≡ below_from ws x (suc i) m
     at_key_lem m u = unfold below_from in rw (lt_yes (get_or ws (key_word i) 0) x u)
 
-pub pass_end : (ws : List ℕ) (x n i : ℕ) → Passing ws x n i → n ≤ i → i ≡ below_in ws x
-pass_end ws x n i c l = let v : n - i ≡ 0 = omega arith in sym none ∙ rw v at c.whole
+pub pass_end : (ws : List ℕ) (x n i : ℕ) → Passing ws x n i → n ≤ i → n ≡ below_in ws x
+pass_end ws x n i c l = let v : n - i ≡ 0 = omega arith in let u : n ≡ i = omega (arith, c.most) in u ∙ sym none ∙ rw v at c.whole
   where
     none : below_from ws x i 0 ≡ i
     none = unfold below_from in refl
 
 -- PAGES OF A PATH: i are passed, none of them has the owner
-pub record Seeking (w path : List ℕ) (d s e i : ℕ) : Type 0 where
-  pub most : i ≤ d
-  pub few : d ≤ 3
-  pub long : length path ≡ 4
-  pub fills : All (λ p. fill_of (page_of w p) ≤ 9) (drop i (take d path))
-  pub whole : owner_along w s e (drop i (take d path)) ≡ owner_along w s e (take d path)
+pub record Seeking (w ps : List ℕ) (s e i : ℕ) : Type 0 where
+  pub fills : All (λ p. fill_of (page_of w p) ≤ 9) (drop i ps)
+  pub whole : owner_along w s e (drop i ps) ≡ owner_along w s e ps
 
-pub seek_start : (w path : List ℕ) (d s e : ℕ) → length path ≡ 4 → d ≤ 3 → All (λ p. fill_of (page_of w p) ≤ 9) (take d path) → Seeking w path d s e 0
-seek_start w path d s e l u f = record { most = omega arith; few = u; long = l; fills = f; whole = refl }
+module _ (w ps : List ℕ) (s e i p : ℕ) (c : Seeking w ps s e i) (l : i < length ps) (is : p ≡ get_or ps i 0) where
+  pub here : drop i ps ≡ p ∷ drop (suc i) ps
+  here = drop-cons ps i 0 l ∙ ap (λ x. x ∷ drop (suc i) ps) (sym is)
 
-pub next_page : (path : List ℕ) (d i : ℕ) → length path ≡ 4 → d ≤ 3 → i < d → drop i (take d path) ≡ get_or path i 0 ∷ drop (suc i) (take d path)
-next_page path d i l u h =
-    let n : i < length (take d path) = omega (arith, length-take d path) in
-    drop-cons (take d path) i 0 n ∙ ap (λ x. x ∷ drop (suc i) (take d path)) (get_or-take d path i 0 h)
-
-module _ (w path : List ℕ) (d s e i p : ℕ) (c : Seeking w path d s e i) (l : i < d) (is : p ≡ get_or path i 0) where
-  pub here : drop i (take d path) ≡ p ∷ drop (suc i) (take d path)
-  here = next_page path d i c.long c.few l ∙ ap (λ x. x ∷ drop (suc i) (take d path)) (sym is)
-
-  pub all_here : All (λ p. fill_of (page_of w p) ≤ 9) (p ∷ drop (suc i) (take d path))
+  pub all_here : All (λ p. fill_of (page_of w p) ≤ 9) (p ∷ drop (suc i) ps)
   all_here = subst (All (λ p. fill_of (page_of w p) ≤ 9)) here c.fills
 
   pub seek_fill : fill_of (page_of w p) ≤ 9
   seek_fill = all_here.0
 
-  pub along : owner_along w s e (p ∷ drop (suc i) (take d path)) ≡ owner_along w s e (take d path)
+  pub along : owner_along w s e (p ∷ drop (suc i) ps) ≡ owner_along w s e ps
   along = ap (owner_along w s e) (sym here) ∙ c.whole
 
-  pub seek_found : (k : ℕ) (b : Bool) → k ≡ below_in (page_of w p) s → b ≡ owns_at (page_of w p) e (fill_of (page_of w p)) k → b ≡ true → spot_at p k ≡ owner_along w s e (take d path)
+  pub seek_found : (k : ℕ) (b : Bool) → k ≡ below_in (page_of w p) s → b ≡ owns_at (page_of w p) e (fill_of (page_of w p)) k → b ≡ true → spot_at p k ≡ owner_along w s e ps
   seek_found k b q o t = sym (yes (ap (owns_at (page_of w p) e (fill_of (page_of w p))) (sym q) ∙ sym o ∙ t) ∙ ap (spot_at p) (sym q)) ∙ along
     where
-      yes : owns_at (page_of w p) e (fill_of (page_of w p)) (below_in (page_of w p) s) ≡ true → owner_along w s e (p ∷ drop (suc i) (take d path)) ≡ spot_at p (below_in (page_of w p) s)
+      yes : owns_at (page_of w p) e (fill_of (page_of w p)) (below_in (page_of w p) s) ≡ true → owner_along w s e (p ∷ drop (suc i) ps) ≡ spot_at p (below_in (page_of w p) s)
       yes t = unfold owner_along in rw t
 
-  pub seek_on : (k : ℕ) (b : Bool) → k ≡ below_in (page_of w p) s → b ≡ owns_at (page_of w p) e (fill_of (page_of w p)) k → b ≡ false → Seeking w path d s e (i + 1)
+  pub seek_on : (k : ℕ) (b : Bool) → k ≡ below_in (page_of w p) s → b ≡ owns_at (page_of w p) e (fill_of (page_of w p)) k → b ≡ false → Seeking w ps s e (i + 1)
   seek_on k b q o t =
       let u : i + 1 ≡ suc i = omega arith in
-      record {
-        most = omega arith;
-        few = c.few;
-        long = c.long;
-        fills = rw u all_here.1;
-        whole = rw u (sym (no (ap (owns_at (page_of w p) e (fill_of (page_of w p))) (sym q) ∙ sym o ∙ t)) ∙ along);
-      }
+      record { fills = rw u all_here.1; whole = rw u (sym (no (ap (owns_at (page_of w p) e (fill_of (page_of w p))) (sym q) ∙ sym o ∙ t)) ∙ along) }
     where
-      no : owns_at (page_of w p) e (fill_of (page_of w p)) (below_in (page_of w p) s) ≡ false → owner_along w s e (p ∷ drop (suc i) (take d path)) ≡ owner_along w s e (drop (suc i) (take d path))
+      no : owns_at (page_of w p) e (fill_of (page_of w p)) (below_in (page_of w p) s) ≡ false → owner_along w s e (p ∷ drop (suc i) ps) ≡ owner_along w s e (drop (suc i) ps)
       no t = unfold owner_along in rw t
 
-pub seek_end : (w path : List ℕ) (d s e i : ℕ) → Seeking w path d s e i → d ≤ i → nobody ≡ owner_along w s e (take d path)
-seek_end w path d s e i c l =
-    let n : length (take d path) ≤ i = omega (arith, length-take d path) in
-    sym none ∙ ap (owner_along w s e) (sym (drop_of_length-le (take d path) n)) ∙ c.whole
+pub seek_end : (w ps : List ℕ) (s e i : ℕ) → Seeking w ps s e i → length ps ≤ i → nobody ≡ owner_along w s e ps
+seek_end w ps s e i c l = sym none ∙ ap (owner_along w s e) (sym (drop_of_length-le ps l)) ∙ c.whole
   where
     none : owner_along w s e [] ≡ nobody
     none = unfold owner_along in refl
-
--- the test of a key
-pub owns_key : (ws : List ℕ) (e n i k : ℕ) → n ≡ fill_of ws → i < n → k ≡ get_or ws (key_word i) 0 → leb k e ≡ owns_at ws e (fill_of ws) i
-owns_key ws e n i k f l q = rw (lt_yes i (fill_of ws) (omega arith)) (ap (λ x. leb x e) q)
-
-pub owns_none : (ws : List ℕ) (e n i : ℕ) → n ≡ fill_of ws → n ≤ i → false ≡ owns_at ws e (fill_of ws) i
-owns_none ws e n i f l = rw (lt_no i (fill_of ws) (omega arith))

@@ -6,10 +6,9 @@ ghost use Rattle.words.specs.Lists.{All};
 ghost use Rattle.pages.specs.Layout.{page_of, fill_of};
 ghost use Rattle.owners.specs.Owners.{below_in, owns_at, owner_along};
 
-// Where a region's owner stands: key number `key` of page `page`; flag 0 where no key on the path owns the region.
-#[derive(Clone, Copy)]
+// Where a region's owner stands: key number `key` of page `page`.
+#[derive(Clone, Copy, Debug, PartialEq, Eq)]
 pub struct Spot {
-    pub flag: u32,
     pub page: u32,
     pub key: usize,
 }
@@ -19,15 +18,13 @@ fn below(img: &[u32], page: u32, x: u32) -> usize
     requires { fill_of (page_of img.now page) ≤ 9 }
     ensures { result ≡ below_in (page_of img.now page) x }
 {
-    let n = words::wide(pages::fill(img, page));
-    let mut i: usize = 0;
-    while i < n {
+    let n = pages::fill(img, page) as usize;
+    for i in 0..n {
         if x <= pages::key_number(img, page, i) {
             return i;
         }
-        i += 1;
     }
-    i
+    n
 }
 
 // Is there a key i, and is it at most `end`.
@@ -35,35 +32,21 @@ fn owns(img: &[u32], page: u32, i: usize, end: u32) -> bool
     requires { fill_of (page_of img.now page) ≤ 9 }
     ensures { result ≡ owns_at (page_of img.now page) end (fill_of (page_of img.now page)) i }
 {
-    let n = words::wide(pages::fill(img, page));
-    if i < n {
-        return pages::key_number(img, page, i) <= end;
-    }
-    false
+    let n = pages::fill(img, page) as usize;
+    i < n && pages::key_number(img, page, i) <= end
 }
 
-// The owner of a region among the keys of the first d pages of its path. The path goes right of keys that are at most the start, the owner's
+// The owner of a region among the keys of the first d pages of its path, if one of them owns it. The path goes right of keys that are at most the start, the owner's
 // way left of the first that is not below it: they part only at a key that is the start, and that one owns the region.
-pub fn owner(img: &[u32], path: [u32; 4], d: usize, start: u32, end: u32) -> Spot
+pub fn owner(img: &[u32], path: [u32; 4], d: usize, start: u32, end: u32) -> Option<Spot>
     requires { (d ≤ 3) × All (λ p. fill_of (page_of img.now p) ≤ 9) (take d path) }
     ensures { result ≡ owner_along img.now start end (take d path) }
 {
-    let mut i: usize = 0;
-    while i < d {
-        let p = path[i];
+    for &p in &path[..d] {
         let k = below(img, p, start);
         if owns(img, p, k, end) {
-            return Spot {
-                flag: 1,
-                page: p,
-                key: k,
-            };
+            return Some(Spot { page: p, key: k });
         }
-        i += 1;
     }
-    Spot {
-        flag: 0,
-        page: 0,
-        key: 0,
-    }
+    None
 }

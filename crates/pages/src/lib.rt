@@ -44,14 +44,14 @@ pub struct KeyWords {
 pub fn page_at(p: u32) -> usize
     ensures { result ≡ page_word p }
 {
-    PAGE_WIDTH * words::wide(p)
+    PAGE_WIDTH * p as usize
 }
 
 // Likewise stab record q.
 pub fn record_at(q: u32) -> usize
     ensures { result ≡ record_word q }
 {
-    RECORD_BASE + RECORD_WIDTH * words::wide(q)
+    RECORD_BASE + RECORD_WIDTH * q as usize
 }
 
 // The word of a leaf with which entry i begins. Here and below i may be as many as there is room for: the word behind the last one.

@@ -68,11 +68,7 @@ pub fn copied(to: Page, a: usize, from: Page, b: usize, n: usize) -> Page
     ensures { result ≡ copied_in to a from b n }
 {
     let mut ws = to;
-    let mut i: usize = 0;
-    while i < n {
-        ws[a + i] = from[b + i];
-        i += 1;
-    }
+    ws[a..a + n].copy_from_slice(&from[b..b + n]);
     ws
 }
 

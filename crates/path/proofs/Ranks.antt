@@ -1,11 +1,14 @@
 -- The rank of x among a page's keys: how it is counted, what it says of the keys, and that it picks the child that a search along the keys picks.
 -- Assumes nothing.
-use Prim.Native.Nat.{ℕ, zero, suc, ◌+◌, ◌-◌, ◌≤◌, ◌<◌}
+use Prim.Native.Nat.{ℕ, zero, suc, ◌+◌, ◌≤◌, ◌<◌}
 use mathlib.Core.Path.{◌≡◌, refl, sym, ◌∙◌}
+use Rattle.std.specs.Prelude.{Option, None, Some, MatchOption}
+use Rattle.std.specs.Option.{unwrap_or}
 use mathlib.Core.List.{List}
 use lib.Dec.{ltb}
 use lib.ListN.{get_or}
 use native.Mathlib.Omega.{arith}
+use native.Mathlib.Decide.{dec_lt}
 use Rattle.words.proofs.Tests.{by_test, lt_yes, lt_no}
 use Rattle.pages.specs.Layout.{fill_of, key_word, child_in}
 use Rattle.image.specs.Read.{kids_from}
@@ -59,32 +62,20 @@ module _ {A : Type 0} where
         at_last : (n : ℕ) → kid_for x (kids_from child w ws 0 n) (child (child_in ws n)) ≡ child (child_in ws (rank_from ws x 0 n))
         at_last n = let e : 0 + n ≡ n = omega arith in rw e at (kid_from x 0 n)
 
--- COUNTING IT: i keys are passed, none of them greater than x, and the count of the others from there is the whole
-pub record Counting (ws : List ℕ) (x n i : ℕ) : Type 0 where
-  pub most : i ≤ n
-  pub few : n ≤ 8
-  pub whole : rank_from ws x i (n - i) ≡ rank_in ws x
+-- FOUND AS THE FIRST greater one of n keys, or n where there is none
+module _ (ws : List ℕ) (x : ℕ) where
+  rank_upto : (i m j : ℕ) → i ≤ j → j ≤ i + m → ((k : ℕ) → i ≤ k → k < j → get_or ws (key_word k) 0 ≤ x) → (j < i + m → x < get_or ws (key_word j) 0) → rank_from ws x i m ≡ j
+  rank_upto i zero j a b f g = omega (arith, rank_none ws x i)
+  rank_upto i (suc m) j a b f g =
+      elim (dec_lt i j) [
+        | yes l ↦ rank_on ws x i m (f i (omega arith) l) ∙ rank_upto (suc i) m j (omega arith) (omega arith) (λ k u v. f k (omega arith) v) (λ l. g (omega arith))
+        | no h ↦ let e : i ≡ j = omega arith in rank_here ws x i m (rw e (g (omega arith))) ∙ e
+      ]
 
-pub count_start : (ws : List ℕ) (x n : ℕ) → n ≡ fill_of ws → fill_of ws ≤ 8 → Counting ws x n 0
-unfolding rank_in
-count_start ws x n e l =
-    let z : n - 0 ≡ fill_of ws = omega arith in
-    record { most = omega arith; few = omega arith; whole = rw z }
-
-pub count_found : (ws : List ℕ) (x n i k : ℕ) → Counting ws x n i → i < n → k ≡ get_or ws (key_word i) 0 → x < k → i ≡ rank_in ws x
-count_found ws x n i k c l e h =
-    let v : n - i ≡ suc (n - suc i) = omega arith in
-    sym (rank_here ws x i (n - suc i) (rw e at h)) ∙ rw v at c.whole
-
-pub count_on : (ws : List ℕ) (x n i k : ℕ) → Counting ws x n i → i < n → k ≡ get_or ws (key_word i) 0 → k ≤ x → Counting ws x n (i + 1)
-count_on ws x n i k c l e h =
-    let v : n - i ≡ suc (n - suc i) = omega arith in
-    let u : i + 1 ≡ suc i = omega arith in
-    record {
-      most = omega arith;
-      few = c.few;
-      whole = rw u (sym (rank_on ws x i (n - suc i) (rw e at h)) ∙ rw v at c.whole);
-    }
-
-pub count_end : (ws : List ℕ) (x n i : ℕ) → Counting ws x n i → n ≤ i → i ≡ rank_in ws x
-count_end ws x n i c l = let v : n - i ≡ 0 = omega arith in sym (rank_none ws x i) ∙ rw v at c.whole
+  pub rank_first : (n : ℕ) (r : Option ℕ) → n ≡ fill_of ws
+      → MatchOption r ((k : ℕ) → 0 ≤ k → k < n → get_or ws (key_word k) 0 ≤ x)
+      (λ i. (0 ≤ i) × (i < n) × (x < get_or ws (key_word i) 0) × ((k : ℕ) → 0 ≤ k → k < i → get_or ws (key_word k) 0 ≤ x))
+      → unwrap_or r n ≡ rank_in ws x
+  unfolding rank_in
+  rank_first n None e h = sym (rw (← e) (rank_upto 0 n n (omega arith) (omega arith) h (λ l. absurd (omega arith))))
+  rank_first n (Some i) e h = sym (rw (← e) (rank_upto 0 n i (omega arith) (omega (arith, h.1)) h.3 (λ _. h.2)))

@@ -127,19 +127,18 @@ rest_on path i at l e =
     let v : 4 - i ≡ suc (4 - suc i) = omega arith in
     rw u at (sym (drop-drop 1 i path)) ∙ ap (drop 1) (rw v at e)
 
-pub write_on : (w : List ℕ) (x : ℕ) (path : List ℕ) (at left i r q : ℕ) → Writing w x path at left i → 0 < left → r ≡ rank_in (page_of w at) x
-    → q ≡ child_in (page_of w at) r → Writing w x (set path i at) q (left - 1) (i + 1)
-write_on w x path at left i r q v l e d =
-    let u : left ≡ suc (left - 1) = omega arith in
+pub write_on : (w : List ℕ) (x : ℕ) (path : List ℕ) (at left i r q more : ℕ) → Writing w x path at left i → left ≡ suc more → r ≡ rank_in (page_of w at) x
+    → q ≡ child_in (page_of w at) r → Writing w x (set path i at) q more (i + 1)
+write_on w x path at left i r q more v u e d =
     let i4 : i < length path = omega (arith, v.steps, v.low, v.long) in
     record {
       steps = omega (arith, v.steps);
       low = v.low;
       long = simp length-set v.long;
-      fills = rw (d, e) (fills_most w x 4 (left - 1) (child_for w x at) (fills_child w x 0 (left - 1) at (subst (λ k. FillsFrom 0 k w at) u v.fills)));
+      fills = rw (d, e) (fills_most w x 4 more (child_for w x at) (fills_child w x 0 more at (subst (λ k. FillsFrom 0 k w at) u v.fills)));
       way =
           rw (add-one, take-suc-set path i at i4, append_snoc, d, e)
-          (ap (λ l. take i path ++ l) (sym (path_more w x (left - 1) at)) ∙ rw u at v.way);
+          (ap (λ l. take i path ++ l) (sym (path_more w x more at)) ∙ rw u at v.way);
       rest = rw (add-one, drop-set-lt (suc i) path i at (omega arith)) (rest_on path i at (omega arith) v.rest);
     }
 
@@ -152,13 +151,15 @@ padded_is (a ∷ b ∷ c ∷ []) l = refl
 padded_is (a ∷ b ∷ c ∷ d ∷ []) l = refl
 padded_is (a ∷ b ∷ c ∷ d ∷ e ∷ r) l = absurd (omega arith)
 
-pub write_end : (w : List ℕ) (x : ℕ) (path : List ℕ) (at left i : ℕ) → Writing w x path at left i → left ≡ 0 → set path i at ≡ padded (path_of w x)
-write_end w x path at left i v z =
+pub write_end : (w : List ℕ) (x : ℕ) (path : List ℕ) (at left i n : ℕ) → Writing w x path at left i → left ≡ 0 → n ≡ depth_of w → set path n at ≡ padded (path_of w x)
+write_end w x path at left i n v z d =
+    let l : n ≡ i = omega (arith, v.steps) in
     let i4 : i < length path = omega (arith, v.steps, v.low, v.long) in
     let is : take i path ++ at ∷ [] ≡ path_of w x = ap (λ l. take i path ++ l) (sym (path_end w x at)) ∙ rw z at v.way in
-    let n : length (path_of w x) ≡ suc i = path_long w x (depth_of w) (root_of w) ∙ omega (arith, v.steps) in
-    set_split path i at i4 ∙ ap (λ l. take i path ++ at ∷ l) (rest_on path i at (omega arith) v.rest) ∙ sym (append_snoc (take i path) at (replicate (4 - suc i) 0))
-    ∙ rw (is, ← n) (sym (padded_is (path_of w x) (omega (arith, v.low, v.steps))))
+    let long : length (path_of w x) ≡ suc i = path_long w x (depth_of w) (root_of w) ∙ omega (arith, v.steps) in
+    rw l
+    (set_split path i at i4 ∙ ap (λ l. take i path ++ at ∷ l) (rest_on path i at (omega arith) v.rest) ∙ sym (append_snoc (take i path) at (replicate (4 - suc i) 0))
+    ∙ rw (is, ← long) (sym (padded_is (path_of w x) (omega (arith, v.low, v.steps)))))
 
 -- READING IT: word j of the path in four words is the page j steps down
 pub path_read : (w : List ℕ) (x j : ℕ) → height_of w ≤ 4 → 1 ≤ height_of w → j ≤ depth_of w → get_or (padded (path_of w x)) j 0 ≡ down_to j w x (root_of w)

@@ -19,7 +19,7 @@ pub fn depth(img: &[u32]) -> usize
     requires { 1 ≤ height_of img.now }
     ensures { result ≡ depth_of img.now }
 {
-    words::wide(words::word(img, 1)) - 1
+    words::word(img, 1) as usize - 1
 }
 
 // The child of an inner page that x belongs to: as many keys as are at most x stand left of it.
@@ -27,15 +27,10 @@ pub fn rank(img: &[u32], page: u32, x: u32) -> usize
     requires { fill_of (page_of img.now page) ≤ 8 }
     ensures { result ≡ rank_in (page_of img.now page) x }
 {
-    let n = words::wide(pages::fill(img, page));
-    let mut i: usize = 0;
-    while i < n {
-        if x < pages::key_number(img, page, i) {
-            return i;
-        }
-        i += 1;
-    }
-    i
+    let n = pages::fill(img, page) as usize;
+    (0..n)
+        .find(|&i| x < pages::key_number(img, page, i))
+        .unwrap_or(n)
 }
 
 // The pages from the root to the leaf where x belongs; 0 behind them where the tree is not four pages high.
@@ -44,16 +39,13 @@ pub fn descend(img: &[u32], x: u32) -> [u32; 4]
     requires fills { Fills (depth_of img.now) img.now (root_of img.now) }
     ensures { result ≡ padded (path_of img.now x) }
 {
+    let depth = depth(img);
     let mut path = [0u32; 4];
     let mut at = root(img);
-    let mut left = depth(img);
-    let mut i: usize = 0;
-    while 0 < left {
+    for i in 0..depth {
         path[i] = at;
         at = pages::child(img, at, rank(img, at, x));
-        i += 1;
-        left -= 1;
     }
-    path[i] = at;
+    path[depth] = at;
     path
 }

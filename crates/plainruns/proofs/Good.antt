@@ -14,7 +14,7 @@ use Rattle.words.proofs.Tests.{eq_of, either}
 use Rattle.regions.specs.declared.Region.{Region}
 use Rattle.regions.specs.declared.Seat.{Seat}
 use Rattle.regions.specs.Positions.{account, well_bound, well_formed}
-use Rattle.regions.specs.Limits.{most_aRound, item_width}
+use Rattle.regions.specs.Limits.{most_a_round, item_width}
 use Rattle.regions.specs.Sets.{Set, empty_set, held_by, share_of, held_at, crossed, contradicted, saved, deleted}
 use Rattle.regions.specs.Numbers.{REGION, ACCOUNT, HELD, CROSS, LEVEL, SHARE, ABSENT, SEAT, LIMIT, DESK, FORM, ROOM, unless}
 use Rattle.regions.specs.Calls.{foreign, open_set_no, save_no, delete_no, point_no, bounds_no, join_no, ancestors, parent, descendants, children, joined}
@@ -216,7 +216,7 @@ fair so si (delete w a p) s g = fair_first ((foreign a p, ACCOUNT) ∷ (not (hel
 fair so si (look a o) s g = fair_look a o s
 fair so si (round x y) s g = rw (ap (λ (z : Shown). z.number) (round_answer so si s x y g)) (omega arith)
 fair so si (open_seat i a k l) s g =
-    rw (desk_fits_lem so si s g, first_no_lem false DESK _ refl) (fair_first ((ltb 7 i || is_open (seat_at s.desk i), SEAT) ∷ (ltb 15 a, ACCOUNT) ∷ (ltb most_aRound l, LIMIT) ∷ []) (omega arith))
+    rw (desk_fits_lem so si s g, first_no_lem false DESK _ refl) (fair_first ((ltb 7 i || is_open (seat_at s.desk i), SEAT) ∷ (ltb 15 a, ACCOUNT) ∷ (ltb most_a_round l, LIMIT) ∷ []) (omega arith))
 fair so si (close_seat i) s g =
     rw (desk_fits_lem so si s g, first_no_lem false DESK _ refl) (fair_first ((ltb 7 i || not (is_open (seat_at s.desk i)), SEAT) ∷ []) (omega arith))
 fair so si (ask_part i n) s g = omega arith

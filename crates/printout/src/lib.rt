@@ -26,16 +26,14 @@ pub fn put_pairs(words: &[u32], n: usize, out: &mut [u8]) -> usize
     ensures { PutsPairs words.now n out.old result out.new }
 {
     let mut at: usize = 0;
-    let mut i: usize = 0;
-    while i < n {
+    for i in 0..n {
         at = lines::put_line(out, at, pair_at(words, i), 4);
-        i += 1;
     }
     at
 }
 
 // A batch: how many bytes and pairs it has, and the mark behind them.
-#[derive(Clone, Copy)]
+#[derive(Clone, Copy, Debug, PartialEq, Eq)]
 pub struct Batch {
     pub bytes: usize,
     pub pairs: usize,

@@ -23,9 +23,7 @@ pub fn raise(img: &mut [u32], page: Page, c: usize) -> Risen
     let mut key = pagewords::key_in(page, c);
     let x = key.key;
     let mut ws = page;
-    let mut j = c;
-    while j > 0 {
-        j -= 1;
+    for j in (0..c).rev() {
         let from = pagewords::key_in(page, j);
         let l = records::lift(img, from, key, x);
         let gave = l.from;
@@ -33,7 +31,7 @@ pub fn raise(img: &mut [u32], page: Page, c: usize) -> Risen
         ws = s;
         key = l.to;
     }
-    Risen { page: ws, key: key }
+    Risen { page: ws, key }
 }
 
 // A key into a page as key i, with the page r on its right; the key behind it gives it what it stabs.
@@ -42,7 +40,7 @@ pub fn enter_key(img: &mut [u32], page: Page, i: usize, k: KeyWords, r: u32) -> 
     requires by_index { (h : ℕ) × EnterReady img.old page i k h }
     ensures { (h : ℕ) (g : EnterReady img.old page i k h) → Entered img.old img.new page i k r h g result }
 {
-    if i < words::wide(page[1]) {
+    if i < page[1] as usize {
         let next = pagewords::key_in(page, i);
         let l = records::lift(img, next, k, k.key);
         let gave = l.from;

@@ -28,6 +28,7 @@ fn last_stabbed(img: &[u32], head: u32, x: u32) -> u32
 {
     let mut last: u32 = 0;
     let mut q = head;
+    // A walk by links: there is no index to count.
     while q != 0 {
         let r = pages::record_region(img, q);
         if x < r.start {
@@ -49,6 +50,7 @@ fn last_before(img: &[u32], head: u32, start: u32) -> u32
 {
     let mut last: u32 = 0;
     let mut q = head;
+    // A walk by links: there is no index to count.
     while q != 0 {
         let r = pages::record_region(img, q);
         if start <= r.start {
@@ -99,7 +101,7 @@ fn renewed(img: &[u32], k: KeyWords, head: u32) -> KeyWords
         key: k.key,
         start: r.start,
         end: r.end,
-        head: head,
+        head,
     }
 }
 
@@ -164,6 +166,7 @@ pub fn drop_list(img: &mut [u32], head: u32)
     ensures { (qs : List ℕ) → Chain img.old head qs → AllUsed img.old qs → Dropped img.old img.new qs }
 {
     let mut q = head;
+    // A walk by links: there is no index to count.
     while q != 0 {
         let n = pages::record_next(img, q);
         store::free_record(img, q);

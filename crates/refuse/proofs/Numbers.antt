@@ -1,7 +1,7 @@
 -- The numbers of a save and of a delete, by the first test that refuses it.
 -- Assumes nothing.
 use Prim.Native.Nat.{ℕ, ◌+◌, ◌<◌}
-use mathlib.Core.Path.{◌≡◌, sym, ap, ap₂, ◌∙◌}
+use mathlib.Core.Path.{◌≡◌, sym, ap₂, ◌∙◌}
 use mathlib.Core.Bool.{true, false}
 use mathlib.Core.List.{List}
 use lib.Dec.{leb}
@@ -71,9 +71,9 @@ pub share_word : (w : List ℕ) (a : ℕ) → a < 16 → get_or w (2 + a) 0 ≡ 
 unfolding set_of
 share_word w a l = sym (share_at w a l)
 
-pub full_is : (w held : List ℕ) (a b share : ℕ) → a < 16 → get_or held a 0 ≡ held_by a (set_of w) → b ≡ a → share ≡ get_or w (2 + b) 0
-    → leb share (get_or held b 0) ≡ leb (share_of a (set_of w)) (held_by a (set_of w))
-full_is w held a b share l e i j = ap₂ leb (j ∙ ap (λ z. get_or w (2 + z) 0) i ∙ share_word w a l) (ap (λ z. get_or held z 0) i ∙ e)
+pub full_is : (w held : List ℕ) (a share : ℕ) → a < 16 → get_or held a 0 ≡ held_by a (set_of w) → share ≡ get_or w (2 + a) 0
+    → leb share (get_or held a 0) ≡ leb (share_of a (set_of w)) (held_by a (set_of w))
+full_is w held a share l e j = ap₂ leb (j ∙ share_word w a l) e
 
 -- a well formed region starts before it ends; an account that a position belongs to is at most 15
 pub formed_order : (r : Region) → well_formed r ≡ true → r.start < r.end

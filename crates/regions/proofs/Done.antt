@@ -12,7 +12,7 @@ use Rattle.words.proofs.Says.{true_so, so_true}
 use Rattle.regions.specs.declared.Region.{Region}
 use Rattle.regions.specs.declared.Seat.{Seat}
 use Rattle.regions.specs.Positions.{account, well_bound, well_formed}
-use Rattle.regions.specs.Limits.{most_aRound, item_width}
+use Rattle.regions.specs.Limits.{most_a_round, item_width}
 use Rattle.regions.specs.Sets.{Set, held_at, crossed, contradicted, held_by, share_of}
 use Rattle.regions.specs.Calls.{foreign, open_set_no, save_no, delete_no, point_no, bounds_no, join_no}
 use Rattle.regions.specs.Items.{batch_no}
@@ -167,7 +167,7 @@ pub record MayOpen (desk : List Seat) (i a l : ℕ) : Type 0 where
   pub seat : i ≤ 7
   pub shut : is_open (seat_at desk i) ≡ false
   pub range : a ≤ 15
-  pub limit : l ≤ most_aRound
+  pub limit : l ≤ most_a_round
 
 pub open_seat_done : (desk : List Seat) (i a l : ℕ) → open_seat_no desk i a l ≡ 0 → MayOpen desk i a l
 unfolding open_seat_no
@@ -175,7 +175,7 @@ open_seat_done desk i a l e =
     let u = first_0 (not (desk_fits desk)) 10 _ e in
     let v = first_0 (ltb 7 i || is_open (seat_at desk i)) 8 _ u.1 in
     let w = first_0 (ltb 15 a) 2 _ v.1 in
-    let x = first_0 (ltb most_aRound l) 9 _ w.1 in
+    let x = first_0 (ltb most_a_round l) 9 _ w.1 in
     record {
       fits = desk_fits_lem desk (not_false _ u.0);
       seat = nlt_of _ _ (or_false_left (ltb 7 i) _ v.0);
@@ -186,7 +186,7 @@ open_seat_done desk i a l e =
 
 pub done_open_seat : (desk : List Seat) (i a l : ℕ) → MayOpen desk i a l → open_seat_no desk i a l ≡ 0
 unfolding open_seat_no first_no
-done_open_seat desk i a l m = rw (fits_desk desk m.fits, lt_no 7 i m.seat, m.shut, lt_no 15 a m.range, lt_no most_aRound l m.limit)
+done_open_seat desk i a l m = rw (fits_desk desk m.fits, lt_no 7 i m.seat, m.shut, lt_no 15 a m.range, lt_no most_a_round l m.limit)
 
 pub record MayClose (desk : List Seat) (i : ℕ) : Type 0 where
   pub fits : DeskOk desk

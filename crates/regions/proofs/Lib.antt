@@ -13,3 +13,4 @@ pub mod Fits
 pub mod Seats
 pub mod Shares
 pub mod Numbers
+pub mod Refused

@@ -18,7 +18,7 @@ use Rattle.regions.specs.declared.Open.{Open}
 use Rattle.regions.specs.declared.State.{State}
 use Rattle.regions.specs.declared.State.TheVariants.{Closed, Open as Opened}
 use Rattle.regions.specs.declared.Seat.{Seat}
-use Rattle.regions.specs.Limits.{house_limit, most_aRound}
+use Rattle.regions.specs.Limits.{house_limit, most_a_round}
 use Rattle.regions.specs.Sets.{Set}
 use Rattle.regions.specs.Calls.{joined, pair_words}
 use Rattle.regions.specs.Desk.{is_past, past, mark_fits, state_fits, seat_fits, limit_asked, opened, closed, seat_at, state_limit, state_handed, handed, handed_words, state_turned, turned, poured}
@@ -30,25 +30,25 @@ use Rattle.regions.proofs.Fits.{pair_wide}
 pub record OpenOk (o : Open) : Type 0 where
   pub range : o.account ≤ 15
   pub low : 1 ≤ o.limit
-  pub high : o.limit ≤ most_aRound
+  pub high : o.limit ≤ most_a_round
   pub mark_in : mark_fits o.account o.mark ≡ true
 
 pub open_ok : (o : Open) → state_fits (Opened o) ≡ true → OpenOk o
 unfolding state_fits
 open_ok o h =
-    let b = leb o.account 15 && (leb 1 o.limit && leb o.limit most_aRound) in
-    let m = (and_says (le_says o.account 15) (and_says (le_says 1 o.limit) (le_says o.limit most_aRound))).yes_so (and_left b (mark_fits o.account o.mark) (T_of h)) in
+    let b = leb o.account 15 && (leb 1 o.limit && leb o.limit most_a_round) in
+    let m = (and_says (le_says o.account 15) (and_says (le_says 1 o.limit) (le_says o.limit most_a_round))).yes_so (and_left b (mark_fits o.account o.mark) (T_of h)) in
     record { range = m.0; low = m.1.0; high = m.1.1; mark_in = of_T _ (and_right b (mark_fits o.account o.mark) (T_of h)) }
 
 pub ok_open : (o : Open) → OpenOk o → state_fits (Opened o) ≡ true
 unfolding state_fits
-ok_open o k = rw (le_yes o.account 15 k.range, le_yes 1 o.limit k.low, le_yes o.limit most_aRound k.high) k.mark_in
+ok_open o k = rw (le_yes o.account 15 k.range, le_yes 1 o.limit k.low, le_yes o.limit most_a_round k.high) k.mark_in
 
-pub opened_fits : (a : ℕ) (k : Kind) (l : ℕ) → a ≤ 15 → l ≤ most_aRound → seat_fits (opened a k l) ≡ true
+pub opened_fits : (a : ℕ) (k : Kind) (l : ℕ) → a ≤ 15 → l ≤ most_a_round → seat_fits (opened a k l) ≡ true
 unfolding mark_fits
 opened_fits a k l h m =
-    let f : (1 ≤ limit_asked l) × (limit_asked l ≤ most_aRound) =
-    either (λ x. (1 ≤ x) × (x ≤ most_aRound)) (eqb l 0) house_limit l (λ e. omega arith) (λ e. let z = ne_of l 0 e in omega arith) in
+    let f : (1 ≤ limit_asked l) × (limit_asked l ≤ most_a_round) =
+    either (λ x. (1 ≤ x) × (x ≤ most_a_round)) (eqb l 0) house_limit l (λ e. omega arith) (λ e. let z = ne_of l 0 e in omega arith) in
     ok_open _ (record { range = h; low = f.0; high = f.1; mark_in = refl })
 
 pub closed_fits : seat_fits closed ≡ true
@@ -90,7 +90,7 @@ unfolding state_handed state_limit
 handed_limit X Y Closed = omega arith
 handed_limit X Y (Opened o) = omega (arith, length-take o.limit (past o.mark (joined X Y o.account o.kind)))
 
-pub limit_small : (t : State) → state_fits t ≡ true → state_limit t ≤ most_aRound
+pub limit_small : (t : State) → state_fits t ≡ true → state_limit t ≤ most_a_round
 unfolding state_limit
 limit_small Closed h = omega arith
 limit_small (Opened o) h = (open_ok o h).high

@@ -4,7 +4,7 @@ use Rattle.std.specs.Prelude.{ℕ, suc, ◌*◌, Bool, true, false, not, ◌&&�
 use mathlib.Core.List.{List, [], ◌∷◌, map, flat_map}
 use Rattle.std.proofs.lemmas.List.Edits.{sets}
 use Rattle.words.specs.Lists.{filter, all, last_or, first_no}
-use Rattle.regions.specs.Limits.{buffer_words, house_limit, last_account, last_seat, most_aRound, seat_count, seat_width}
+use Rattle.regions.specs.Limits.{buffer_words, house_limit, last_account, last_seat, most_a_round, seat_count, seat_width}
 use Rattle.regions.specs.Positions.{account}
 use Rattle.regions.specs.Sets.{Set}
 use Rattle.regions.specs.Numbers.{ACCOUNT, SEAT, LIMIT, DESK, unless}
@@ -55,7 +55,7 @@ mark_fits a (Last x y) = eqb (account x) a && eqb (account y) a
 
 unfoldable pub state_fits : State → Bool
 state_fits Closed = true
-state_fits (Opened o) = (leb o.account last_account && (leb 1 o.limit && leb o.limit most_aRound)) && mark_fits o.account o.mark
+state_fits (Opened o) = (leb o.account last_account && (leb 1 o.limit && leb o.limit most_a_round)) && mark_fits o.account o.mark
 
 abbrev pub seat_fits : Seat → Bool
 seat_fits s = state_fits s.state
@@ -90,7 +90,7 @@ open_desk_no desk = first_no ((not (eqb (length desk) seat_count), DESK) ∷ [])
 
 unfoldable pub open_seat_no : List Seat → ℕ → ℕ → ℕ → ℕ
 open_seat_no desk i a l =
-    first_no ((not (desk_fits desk), DESK) ∷ (ltb last_seat i || is_open (seat_at desk i), SEAT) ∷ (ltb last_account a, ACCOUNT) ∷ (ltb most_aRound l, LIMIT) ∷ [])
+    first_no ((not (desk_fits desk), DESK) ∷ (ltb last_seat i || is_open (seat_at desk i), SEAT) ∷ (ltb last_account a, ACCOUNT) ∷ (ltb most_a_round l, LIMIT) ∷ [])
 
 unfoldable pub close_seat_no : List Seat → ℕ → ℕ
 close_seat_no desk i = first_no ((not (desk_fits desk), DESK) ∷ (ltb last_seat i || not (is_open (seat_at desk i)), SEAT) ∷ [])

@@ -1,5 +1,6 @@
 pub mod Limits
 pub mod Positions
+pub mod Refusals
 pub mod Sets
 pub mod Numbers
 pub mod Calls

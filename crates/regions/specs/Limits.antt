@@ -39,8 +39,8 @@ abbrev pub house_limit : ℕ
 house_limit = 8
 
 -- the most pairs a round that a seat may ask for, and may have stored
-abbrev pub most_aRound : ℕ
-most_aRound = 32
+abbrev pub most_a_round : ℕ
+most_a_round = 32
 
 -- a region, a pair and an item of a batch in words; a seat's words of the round buffer, and all of its words
 abbrev pub region_width : ℕ

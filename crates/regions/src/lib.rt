@@ -6,38 +6,61 @@ ghost use Rattle.words.specs.Lists.{sum};
 ghost use Rattle.regions.specs.Limits.{most_regions};
 ghost use Rattle.regions.specs.Positions.{document, account, well_bound, well_formed, ends_before, contains, crosses, stabs, spans, holds, too_late, inside, is_above, is_below};
 ghost use Rattle.regions.specs.Calls.{foreign, choice_of, level_fits};
+ghost use Rattle.regions.specs.Refusals.{refusal_number, number_told};
 ghost use Rattle.regions.specs.Desk.{closed};
 
-// REFUSALS, by their number (document 01's table). A call that is done answers DONE.
-pub const DONE: u32 = 0;
+// REFUSALS (document 01's table): why a call was not done.
+#[derive(Clone, Copy, Debug, PartialEq, Eq)]
+pub enum Refusal {
+    Image,
+    Region,
+    Account,
+    Held,
+    Cross,
+    Share,
+    Absent,
+    Shares,
+    Seat,
+    Limit,
+    Desk,
+    Form,
+    Room,
+    Level,
+}
 
-pub const IMAGE: u32 = 1;
+// A refusal's number in the table, for those who are told a number.
+impl From<Refusal> for u32 {
+    ghost from_gives = { λ r n. n ≡ refusal_number r };
 
-pub const REGION: u32 = 2;
+    fn from(r: Refusal) -> u32 {
+        match r {
+            Refusal::Image => 1,
+            Refusal::Region => 2,
+            Refusal::Account => 3,
+            Refusal::Held => 4,
+            Refusal::Cross => 5,
+            Refusal::Share => 6,
+            Refusal::Absent => 7,
+            Refusal::Shares => 8,
+            Refusal::Seat => 9,
+            Refusal::Limit => 10,
+            Refusal::Desk => 11,
+            Refusal::Form => 12,
+            Refusal::Room => 13,
+            Refusal::Level => 14,
+        }
+    }
+}
 
-pub const ACCOUNT: u32 = 3;
-
-pub const HELD: u32 = 4;
-
-pub const CROSS: u32 = 5;
-
-pub const SHARE: u32 = 6;
-
-pub const ABSENT: u32 = 7;
-
-pub const SHARES: u32 = 8;
-
-pub const SEAT: u32 = 9;
-
-pub const LIMIT: u32 = 10;
-
-pub const DESK: u32 = 11;
-
-pub const FORM: u32 = 12;
-
-pub const ROOM: u32 = 13;
-
-pub const LEVEL: u32 = 14;
+// The number of a call that answers nothing else: 0 where it was done.
+pub fn number_told(answer: Result<(), Refusal>) -> u32
+    ensures { result ≡ number_told answer }
+{
+    match answer {
+        Ok(()) => 0,
+        Err(r) => u32::from(r),
+    }
+}
 
 // THE NUMBERS OF THE HOUSE, as specs/Limits has them. Accounts:
 pub const ACCOUNT_COUNT: usize = 16;
@@ -82,7 +105,7 @@ pub const BUFFER_WORDS: usize = 1024;
 pub type Shares = [u32; 16];
 
 // An element: where it starts and ends, its depth in its document, and the house's reference to it.
-#[derive(Clone, Copy)]
+#[derive(Clone, Copy, Debug, PartialEq, Eq)]
 pub struct Region {
     pub start: u32,
     pub end: u32,
@@ -91,14 +114,14 @@ pub struct Region {
 }
 
 // Whether a region that starts at a position holds it too.
-#[derive(Clone, Copy)]
+#[derive(Clone, Copy, Debug, PartialEq, Eq)]
 pub enum Choice {
     Strict,
     WithSelf,
 }
 
 // What a join pairs.
-#[derive(Clone, Copy)]
+#[derive(Clone, Copy, Debug, PartialEq, Eq)]
 pub enum Kind {
     Ancestor,
     Parent,
@@ -106,13 +129,13 @@ pub enum Kind {
 }
 
 // How far a seat has been served: the last pair handed, by a's start and d's start.
-#[derive(Clone, Copy)]
+#[derive(Clone, Copy, Debug, PartialEq, Eq)]
 pub enum Mark {
     Fresh,
     Last(u32, u32),
 }
 
-#[derive(Clone, Copy)]
+#[derive(Clone, Copy, Debug, PartialEq, Eq)]
 pub struct Open {
     pub account: u32,
     pub kind: Kind,
@@ -120,13 +143,13 @@ pub struct Open {
     pub mark: Mark,
 }
 
-#[derive(Clone, Copy)]
+#[derive(Clone, Copy, Debug, PartialEq, Eq)]
 pub enum State {
     Closed,
     Open(Open),
 }
 
-#[derive(Clone, Copy)]
+#[derive(Clone, Copy, Debug, PartialEq, Eq)]
 pub struct Seat {
     pub state: State,
 }
@@ -143,25 +166,18 @@ pub fn account_of(p: u32) -> u32
     p / ACCOUNT_POSITIONS
 }
 
+#[tactic(auto, unfolding(crate::specs::Positions::well_bound))]
 pub fn well_bound(start: u32, end: u32) -> bool
     ensures { result ≡ well_bound start end }
 {
-    if start >= end {
-        return false;
-    }
-    document_of(start) == document_of(end)
+    start < end && document_of(start) == document_of(end)
 }
 
+#[tactic(auto, unfolding(crate::specs::Positions::well_formed))]
 pub fn well_formed(r: Region) -> bool
     ensures { result ≡ well_formed r }
 {
-    if !well_bound(r.start, r.end) {
-        return false;
-    }
-    if r.level < 1 {
-        return false;
-    }
-    r.level <= LAST_LEVEL
+    well_bound(r.start, r.end) && 1 <= r.level && r.level <= LAST_LEVEL
 }
 
 pub fn ends_before(x: Region, y: Region) -> bool
@@ -170,46 +186,35 @@ pub fn ends_before(x: Region, y: Region) -> bool
     x.end < y.start
 }
 
+#[tactic(auto, unfolding(crate::specs::Positions::contains))]
 pub fn contains(x: Region, y: Region) -> bool
     ensures { result ≡ contains x y }
 {
-    if x.start >= y.start {
-        return false;
-    }
-    y.end < x.end
+    x.start < y.start && y.end < x.end
 }
 
+#[tactic(auto, unfolding(crate::specs::Positions::crosses, crate::specs::Positions::nested))]
 pub fn crosses(x: Region, y: Region) -> bool
     ensures { result ≡ crosses x y }
 {
-    if ends_before(x, y) {
-        return false;
-    }
-    if ends_before(y, x) {
-        return false;
-    }
-    if contains(x, y) {
-        return false;
-    }
-    !contains(y, x)
+    !(ends_before(x, y) || ends_before(y, x) || contains(x, y) || contains(y, x))
 }
 
+#[tactic(auto, unfolding(crate::specs::Positions::stabs))]
 pub fn stabs(k: u32, r: Region) -> bool
     ensures { result ≡ stabs k r }
 {
-    if k < r.start {
-        return false;
-    }
-    k <= r.end
+    r.start <= k && k <= r.end
 }
 
 // The first start that comes too late to hold p: p itself, or with self the one behind it, for which 32 bits may not do.
+#[tactic(auto, unfolding(crate::specs::Positions::too_late))]
 fn too_late(choice: Choice, p: u32) -> usize
     ensures { result ≡ too_late choice p }
 {
     match choice {
-        Choice::Strict => words::wide(p),
-        Choice::WithSelf => words::wide(p) + 1,
+        Choice::Strict => p as usize,
+        Choice::WithSelf => p as usize + 1,
     }
 }
 
@@ -217,18 +222,17 @@ fn too_late(choice: Choice, p: u32) -> usize
 pub fn in_time(choice: Choice, p: u32, start: u32) -> bool
     ensures { result ≡ ltb start (too_late choice p) }
 {
-    words::wide(start) < too_late(choice, p)
+    (start as usize) < too_late(choice, p)
 }
 
+#[tactic(auto, using(crate::proofs::Small::spans_ended))]
 pub fn spans(choice: Choice, p: u32, start: u32, end: u32) -> bool
     ensures { result ≡ spans choice p start end }
 {
-    if end <= p {
-        return false;
-    }
-    in_time(choice, p, start)
+    p < end && in_time(choice, p, start)
 }
 
+#[tactic(auto, unfolding(crate::specs::Positions::holds))]
 pub fn holds(choice: Choice, p: u32, r: Region) -> bool
     ensures { result ≡ holds choice p r }
 {
@@ -246,34 +250,27 @@ pub fn choice_of(kind: Kind) -> Choice
     }
 }
 
+#[tactic(auto, unfolding(crate::specs::Positions::inside))]
 pub fn inside(start: u32, end: u32, r: Region) -> bool
     ensures { result ≡ inside start end r }
 {
-    if r.start <= start {
-        return false;
-    }
-    r.start < end
+    start < r.start && r.start < end
 }
 
 // Whether the region's level is one less than the given one; level + 1 would not fit at the last number.
+#[tactic(auto, unfolding(crate::specs::Positions::is_above))]
 pub fn is_above(level: u32, r: Region) -> bool
     ensures { result ≡ is_above level r }
 {
-    if level == 0 {
-        return false;
-    }
-    r.level == level - 1
+    level != 0 && r.level == level - 1
 }
 
 // Whether the region's level is one more.
+#[tactic(auto, unfolding(crate::specs::Positions::is_below))]
 pub fn is_below(level: u32, r: Region) -> bool
     ensures { result ≡ is_below level r }
 {
-    let l = r.level;
-    if l == 0 {
-        return false;
-    }
-    l - 1 == level
+    r.level != 0 && r.level - 1 == level
 }
 
 // Whether a region's level is one that a kind pairs with the given one: of a parent it is one less.
@@ -288,13 +285,11 @@ pub fn level_fits(kind: Kind, level: u32, r: Region) -> bool
 }
 
 // Account above 15, or a position of another account.
+#[tactic(auto, unfolding(crate::specs::Calls::foreign))]
 pub fn foreign(account: u32, p: u32) -> bool
     ensures { result ≡ foreign account p }
 {
-    if LAST_ACCOUNT < account {
-        return true;
-    }
-    account_of(p) != account
+    LAST_ACCOUNT < account || account_of(p) != account
 }
 
 // Whether sixteen shares sum to at most 500. No sum is made that could pass it, so none can wrap.
@@ -302,14 +297,11 @@ pub fn shares_fit(shares: Shares) -> bool
     ensures { result ≡ leb (sum shares) most_regions }
 {
     let mut room: u32 = MOST_REGIONS;
-    let mut a: usize = 0;
-    while a < ACCOUNT_COUNT {
-        let share = shares[a];
+    for share in shares {
         if room < share {
             return false;
         }
         room -= share;
-        a += 1;
     }
     true
 }
@@ -317,6 +309,7 @@ pub fn shares_fit(shares: Shares) -> bool
 pub fn closed_seat() -> Seat
     ensures { result ≡ closed }
 {
-    let st = State::Closed;
-    Seat { state: st }
+    Seat {
+        state: State::Closed,
+    }
 }

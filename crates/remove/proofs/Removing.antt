@@ -15,7 +15,7 @@ use Rattle.regions.specs.Calls.{delete_no}
 use Rattle.regions.proofs.Done.{delete_done}
 use Rattle.regions.proofs.Rising.{deleted_splits}
 use Rattle.pages.specs.Layout.{root_of, height_of, shares_of, page_of, fill_of}
-use Rattle.xrtree.specs.Tree.{Tree, regions, page_places}
+use Rattle.xrtree.specs.Tree.{Tree, page_places}
 use Rattle.xrtree.specs.Rules.{filled, rule6}
 use Rattle.xrtree.specs.Claims.{page_at, Over}
 use Rattle.xrtree.specs.Holes.Post.{at_end}

@@ -2,7 +2,7 @@
 // A child left with three is merged with a neighbour, or gets from it what it lacks: the neighbour is split, and the near part merged.
 #![tactic(auto)]
 
-ghost use Rattle.std.specs.Prelude.{◌≡◌, ℕ, ◌<◌, ◌≤◌, T, get_or};
+ghost use Rattle.std.specs.Prelude.{◌≡◌, ℕ, ◌+◌, ◌<◌, T, get_or};
 ghost use Rattle.regions.specs.Sets.{deleted};
 ghost use Rattle.regions.specs.Calls.{delete_no};
 ghost use Rattle.image.specs.Read.{set_of};
@@ -10,43 +10,18 @@ ghost use Rattle.image.specs.Valid.{valid};
 ghost use Rattle.room.specs.Ways.{Mended};
 ghost use Rattle.remove.specs.Mends.{MendAsk, Leads};
 
-// Page `at` of the path, above leaves.
-fn mend_low(img: &mut [u32], path: [u32; 4], at: usize, x: u32)
-    requires { (at < 4) × MendAsk img.old (get_or path at 0) x 0 }
-    ensures { (s : MendAsk img.old (get_or path at 0) x 0) → Mended img.old img.new s.rs 0 s.lo s.hi s.o s.t }
-{
-    mending::mend_page(img, path, at, x, 0);
-}
+use mending::Tier;
 
-// Page `at` of the path, one page higher: first the next page of the path, its child, then itself.
-fn mend_mid(img: &mut [u32], path: [u32; 4], at: usize, x: u32)
-    requires { (at < 3) × Leads img.old x path at 1 × MendAsk img.old (get_or path at 0) x 1 }
-    ensures { (s : MendAsk img.old (get_or path at 0) x 1) → Mended img.old img.new s.rs 1 s.lo s.hi s.o s.t }
-{
-    mend_low(img, path, at + 1, x);
-    mending::mend_page(img, path, at, x, 1);
-}
-
-// Page `at` of the path, two pages higher. No page stands higher than that.
-fn mend_high(img: &mut [u32], path: [u32; 4], at: usize, x: u32)
-    requires { (at < 2) × Leads img.old x path at 2 × MendAsk img.old (get_or path at 0) x 2 }
-    ensures { (s : MendAsk img.old (get_or path at 0) x 2) → Mended img.old img.new s.rs 2 s.lo s.hi s.o s.t }
-{
-    mend_mid(img, path, at + 1, x);
-    mending::mend_page(img, path, at, x, 1);
-}
-
-// The first page of the path, with h + 1 pages below it.
-fn mend(img: &mut [u32], path: [u32; 4], x: u32, h: usize)
-    requires { (h ≤ 2) × Leads img.old x path 0 h × MendAsk img.old (get_or path 0 0) x h }
-    ensures { (s : MendAsk img.old (get_or path 0 0) x h) → Mended img.old img.new s.rs h s.lo s.hi s.o s.t }
+// Page `at` of the path, with h + 1 pages below it: first the next page of the path, its child, then itself.
+fn mend(img: &mut [u32], path: [u32; 4], at: usize, x: u32, h: usize)
+    requires { (at + h < 4) × Leads img.old x path at h × MendAsk img.old (get_or path at 0) x h }
+    ensures { (s : MendAsk img.old (get_or path at 0) x h) → Mended img.old img.new s.rs h s.lo s.hi s.o s.t }
 {
     if h == 0 {
-        mend_low(img, path, 0, x);
-    } else if h == 1 {
-        mend_mid(img, path, 0, x);
+        mending::mend_page(img, path, at, x, Tier::Leaves);
     } else {
-        mend_high(img, path, 0, x);
+        mend(img, path, at + 1, x, h - 1);
+        mending::mend_page(img, path, at, x, Tier::Inners);
     }
 }
 
@@ -61,7 +36,7 @@ pub fn remove(img: &mut [u32], start: u32)
     if d == 0 {
         return;
     }
-    mend(img, path, start, d - 1);
+    mend(img, path, 0, start, d - 1);
     let keys = pages::fill(img, path[0]);
     if keys == 0 {
         roots::shrink_root(img);

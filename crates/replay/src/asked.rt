@@ -1,69 +1,66 @@
-// The calls on the desk, each with the numbers of its line and its answer printed. The eight seats go in by value and come back.
-use regions::Seat;
-use script::Numbers;
+// The calls on the desk, each with the numbers of its line and its answer printed. The eight seats are lent.
+ghost use Rattle.std.specs.Prelude.{◌≡◌, length};
+
+use regions::{Refusal, Seat};
+use script::{Call, Command, Numbers};
 use std::io;
 
-// The seats with one of them written directly: the seat that the numbers mean, whatever they are.
-fn place(seats: [Seat; regions::SEAT_COUNT], n: Numbers) -> [Seat; regions::SEAT_COUNT] {
-    let mut left = seats;
-    let i = words::wide(n[0]);
-    if i < 8 {
-        left[i] = flat::seat_of_numbers(n[1], n[2], n[3], n[4], n[5], n[6], n[7]);
+// Writes one of the seats directly: the seat that the numbers mean, whatever they are.
+fn place(seats: &mut [Seat], n: Numbers) {
+    let i = n[0] as usize;
+    if i < seats.len() {
+        seats[i] = flat::seat_of_numbers(n[1], n[2], n[3], n[4], n[5], n[6], n[7]);
     }
-    left
 }
 
-// A command that opens, closes or writes seats.
-pub fn call(
-    rt: &impl Print,
-    seats: [Seat; regions::SEAT_COUNT],
-    what: usize,
-    n: Numbers,
-) -> io::Result<[Seat; regions::SEAT_COUNT]> {
-    if what == script::PLACE {
-        return Ok(place(seats, n));
+// A call's number.
+fn number(rt: &impl Print, answer: Result<(), Refusal>) -> io::Result<()> {
+    console::line(rt, &[regions::number_told(answer)])
+}
+
+// A command on the desk alone.
+pub fn call(rt: &impl Print, seats: &mut [Seat], buffer: &[u32], c: Command) -> io::Result<()> {
+    let n = c.numbers;
+    match c.call {
+        Call::Place => {
+            place(seats, n);
+            Ok(())
+        }
+        Call::Part => part(rt, seats, buffer, n),
+        Call::Seat => number(
+            rt,
+            desk::open_seat(seats, n[0], n[1], flat::kind_of(n[2]), n[3]),
+        ),
+        Call::Close => number(rt, desk::close_seat(seats, n[0])),
+        _ => number(rt, desk::open_desk(seats)),
     }
-    if what == script::SEAT {
-        let o = desk::open_seat_by_value(seats, n[0], n[1], flat::kind_of(n[2]), n[3]);
-        console::line(rt, &[o.number])?;
-        return Ok(o.seats);
-    }
-    if what == script::CLOSE {
-        let c = desk::close_seat_by_value(seats, n[0]);
-        console::line(rt, &[c.number])?;
-        return Ok(c.seats);
-    }
-    let d = desk::open_desk_by_value(seats);
-    console::line(rt, &[d.number])?;
-    Ok(d.seats)
 }
 
 // A part: its number, then its words.
-pub fn part(
-    rt: &impl Print,
-    seats: [Seat; regions::SEAT_COUNT],
-    buffer: &[u32],
-    n: Numbers,
-) -> io::Result<()> {
-    let number = desk::part_number_by_value(seats, buffer, n[0], n[1]);
-    console::line(rt, &[number])?;
-    let part = desk::part_by_value(seats, buffer, n[0], n[1]);
-    console::rows(rt, part, part.len() / 4)
+fn part(rt: &impl Print, seats: &[Seat], buffer: &[u32], n: Numbers) -> io::Result<()> {
+    match desk::part(seats, buffer, n[0], n[1]) {
+        Ok(words) => {
+            console::line(rt, &[0])?;
+            console::rows(rt, words, words.len() / 4)
+        }
+        Err(refusal) => console::line(rt, &[u32::from(refusal)]),
+    }
 }
 
-// A round: its number and the eight counts.
+// A round: its number and the eight counts, which are 0 where it is refused.
 pub fn round(
     rt: &impl Print,
     outer: &[u32],
     inner: &[u32],
-    seats: [Seat; regions::SEAT_COUNT],
+    seats: &mut [Seat],
     buffer: &mut [u32],
-) -> io::Result<[Seat; regions::SEAT_COUNT]> {
-    let r = desk::round_by_value(outer, inner, seats, buffer);
-    let c = r.counts;
+) -> io::Result<()> {
+    let (number, c) = match desk::round(outer, inner, seats, buffer) {
+        Ok(counts) => (0, counts),
+        Err(refusal) => (u32::from(refusal), [0u32; regions::SEAT_COUNT]),
+    };
     console::line(
         rt,
-        &[r.number, c[0], c[1], c[2], c[3], c[4], c[5], c[6], c[7]],
-    )?;
-    Ok(r.seats)
+        &[number, c[0], c[1], c[2], c[3], c[4], c[5], c[6], c[7]],
+    )
 }

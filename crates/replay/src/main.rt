@@ -9,52 +9,35 @@ mod sets;
 ghost use Rattle.std.specs.Prelude.{◌≤◌, length};
 
 use regions::Seat;
-use script::Command;
+use script::{Call, Command, Group};
 use std::io;
 use std::io::Read;
 use std::rt::{Env, Files};
 
 // What is kept beside the lent words: how many words of each image are lent, and the desk.
-#[derive(Clone, Copy)]
+#[derive(Drop)]
 struct Store {
     outer: usize,
     inner: usize,
     seats: [Seat; regions::SEAT_COUNT],
 }
 
-fn fresh() -> Store {
-    let s = regions::closed_seat();
-    let desk = [s; regions::SEAT_COUNT];
-    Store {
-        outer: pages::IMAGE_WORDS,
-        inner: pages::IMAGE_WORDS,
-        seats: desk,
+impl Store {
+    fn fresh() -> Self {
+        Store {
+            outer: pages::IMAGE_WORDS,
+            inner: pages::IMAGE_WORDS,
+            seats: [regions::closed_seat(); regions::SEAT_COUNT],
+        }
     }
-}
 
-// The store with the desk as a call left it.
-fn with_seats(store: Store, seats: [Seat; regions::SEAT_COUNT]) -> Store {
-    Store {
-        outer: store.outer,
-        inner: store.inner,
-        seats: seats,
-    }
-}
-
-// The store with n words of an image lent from now on.
-fn with_size(store: Store, set: u32, n: u32) -> Store {
-    let seats = store.seats;
-    if set == 0 {
-        return Store {
-            outer: words::wide(n),
-            inner: store.inner,
-            seats: seats,
-        };
-    }
-    Store {
-        outer: store.outer,
-        inner: words::wide(n),
-        seats: seats,
+    // Lends n words of an image from now on.
+    fn resize(&mut self, set: u32, n: u32) {
+        if set == 0 {
+            self.outer = n as usize;
+        } else {
+            self.inner = n as usize;
+        }
     }
 }
 
@@ -68,8 +51,7 @@ fn on_one(
     answers: &mut [u32],
 ) -> io::Result<()> {
     let lent = sets::least(size, img.len());
-    let numbers = c.numbers;
-    sets::call(rt, &mut img[0..lent], c.what, numbers, given, answers)
+    sets::call(rt, &mut img[..lent], c.call, c.numbers, given, answers)
 }
 
 fn on_a_set(
@@ -77,12 +59,11 @@ fn on_a_set(
     outer: &mut [u32],
     inner: &mut [u32],
     given: &[u32],
-    store: Store,
+    store: &Store,
     c: Command,
     answers: &mut [u32],
 ) -> io::Result<()> {
-    let numbers = c.numbers;
-    if numbers[0] == 0 {
+    if c.numbers[0] == 0 {
         on_one(rt, outer, store.outer, c, given, answers)
     } else {
         on_one(rt, inner, store.inner, c, given, answers)
@@ -91,10 +72,7 @@ fn on_a_set(
 
 // The image that a number names.
 fn named<'a>(set: u32, outer: &'a [u32], inner: &'a [u32]) -> &'a [u32] {
-    if set == 0 {
-        return outer;
-    }
-    inner
+    if set == 0 { outer } else { inner }
 }
 
 // A call on two images, which may be one and the same.
@@ -104,31 +82,16 @@ fn on_two<'a>(
     inner: &'a [u32],
     buffer: &mut [u32],
     answers: &mut [u32],
-    store: Store,
+    seats: &mut [Seat],
     c: Command,
-) -> io::Result<Store> {
-    let numbers = c.numbers;
-    let x = named(numbers[0], outer, inner);
-    let y = named(numbers[1], outer, inner);
-    if c.what == script::JOIN {
-        sets::join(rt, x, y, numbers, answers)?;
-        return Ok(store);
+) -> io::Result<()> {
+    let x = named(c.numbers[0], outer, inner);
+    let y = named(c.numbers[1], outer, inner);
+    if c.call == Call::Join {
+        sets::join(rt, x, y, c.numbers, answers)
+    } else {
+        asked::round(rt, x, y, seats, buffer)
     }
-    let desk = store.seats;
-    let left = asked::round(rt, x, y, desk, buffer)?;
-    Ok(with_seats(store, left))
-}
-
-// A command on the desk alone.
-fn on_desk(rt: &impl Print, buffer: &[u32], store: Store, c: Command) -> io::Result<Store> {
-    let numbers = c.numbers;
-    let desk = store.seats;
-    if c.what == script::PART {
-        asked::part(rt, desk, buffer, numbers)?;
-        return Ok(store);
-    }
-    let left = asked::call(rt, desk, c.what, numbers)?;
-    Ok(with_seats(store, left))
 }
 
 // A command on the store itself.
@@ -136,22 +99,18 @@ fn on_store(
     outer: &mut [u32],
     inner: &mut [u32],
     given: &mut [u32],
-    store: Store,
+    store: &mut Store,
     c: Command,
-) -> Store {
-    let numbers = c.numbers;
-    if c.what == script::GIVE {
-        sets::put(given, numbers[0], numbers[1]);
-        return store;
+) {
+    let n = c.numbers;
+    match c.call {
+        Call::Give => sets::put(given, n[0], n[1]),
+        Call::Word => sets::put_word(outer, inner, n),
+        _ => store.resize(n[0], n[1]),
     }
-    if c.what == script::WORD {
-        sets::put_word(outer, inner, numbers);
-        return store;
-    }
-    with_size(store, numbers[0], numbers[1])
 }
 
-// One command: the store as it leaves it.
+// One command.
 fn play(
     rt: &impl Print,
     outer: &mut [u32],
@@ -159,22 +118,30 @@ fn play(
     buffer: &mut [u32],
     given: &mut [u32],
     answers: &mut [u32],
-    store: Store,
+    store: &mut Store,
     c: Command,
-) -> io::Result<Store> {
-    if c.group == script::IMAGE {
-        on_a_set(rt, outer, inner, given, store, c, answers)?;
-        return Ok(store);
+) -> io::Result<()> {
+    match c.group {
+        Group::Image => on_a_set(rt, outer, inner, given, store, c, answers),
+        Group::Pair => {
+            let a = sets::least(store.outer, outer.len());
+            let b = sets::least(store.inner, inner.len());
+            on_two(
+                rt,
+                &outer[..a],
+                &inner[..b],
+                buffer,
+                answers,
+                &mut store.seats,
+                c,
+            )
+        }
+        Group::Desk => asked::call(rt, &mut store.seats, buffer, c),
+        Group::Store => {
+            on_store(outer, inner, given, store, c);
+            Ok(())
+        }
     }
-    if c.group == script::PAIR {
-        let a = sets::least(store.outer, outer.len());
-        let b = sets::least(store.inner, inner.len());
-        return on_two(rt, &outer[0..a], &inner[0..b], buffer, answers, store, c);
-    }
-    if c.group == script::SEATS {
-        return on_desk(rt, buffer, store, c);
-    }
-    Ok(on_store(outer, inner, given, store, c))
 }
 
 // The line of a script at which it ends.
@@ -192,30 +159,29 @@ fn play_all(rt: &impl Print, text: &[u8]) -> io::Result<()>
     let mut buffer = [0u32; regions::BUFFER_WORDS];
     let mut given = [0u32; 4096];
     let mut answers = [0u32; 4096];
-    let mut store = fresh();
+    let mut store = Store::fresh();
     let mut line: u32 = 0;
     let mut at: usize = 0;
+    // (the lines are of many lengths: what counts them is not what steps over them)
     while at < text.len() {
         line += 1;
         let end = script::line_end(text, at);
         if end == text.len() {
             return no_command(rt, line);
         }
-        let c = script::read(&text[at..end]);
-        if !c.ok {
+        let Some(c) = script::read(&text[at..end]) else {
             return no_command(rt, line);
-        }
-        let left = play(
+        };
+        play(
             rt,
             &mut outer,
             &mut inner,
             &mut buffer,
             &mut given,
             &mut answers,
-            store,
+            &mut store,
             c,
         )?;
-        store = left;
         at = end + 1;
     }
     Ok(())
@@ -255,10 +221,8 @@ fn main(rt: HostRuntime) -> io::Result<()> {
     if n < 2 {
         return play_file(&rt, &mut rt.reader());
     }
-    let mut i: usize = 1;
-    while i < n {
+    for i in 1..n {
         play_named(&rt, &rt.stderr(), i)?;
-        i += 1;
     }
     Ok(())
 }

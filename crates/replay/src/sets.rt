@@ -1,26 +1,28 @@
 // The calls on images, each with the numbers of its line and its answer printed.
 ghost use Rattle.std.specs.Prelude.{◌≤◌};
 
-use queries::Parent;
-use regions::{Choice, Region};
-use script::Numbers;
+use inside::Listing;
+use queries::Ancestors;
+use regions::{Choice, Refusal, Region};
+use script::{Call, Numbers};
 use std::io;
 
 // The smaller of a size and what there is.
 pub fn least(n: usize, most: usize) -> usize
     ensures { result ≤ most }
 {
-    if n < most { n } else { most }
+    n.min(most)
+}
+
+// The number of a call that answers nothing else.
+fn number(rt: &impl Print, answer: Result<(), Refusal>) -> io::Result<()> {
+    console::line(rt, &[regions::number_told(answer)])
 }
 
 fn open(rt: &impl Print, img: &mut [u32], n: Numbers) -> io::Result<()> {
-    let mut shares = [0u32; 16];
-    let mut a: usize = 0;
-    while a < 16 {
-        shares[a] = n[1 + a];
-        a += 1;
-    }
-    console::line(rt, &[index::open_set(img, shares)])
+    let mut shares = [0u32; regions::ACCOUNT_COUNT];
+    shares.copy_from_slice(&n[1..17]);
+    number(rt, index::open_set(img, shares))
 }
 
 fn save(rt: &impl Print, img: &mut [u32], n: Numbers) -> io::Result<()> {
@@ -30,7 +32,15 @@ fn save(rt: &impl Print, img: &mut [u32], n: Numbers) -> io::Result<()> {
         level: n[4],
         reference: n[5],
     };
-    console::line(rt, &[index::save(img, n[1], r)])
+    number(rt, index::save(img, n[1], r))
+}
+
+// An ancestor search's number, and what it found: nothing where it is refused.
+fn found(answer: Result<Ancestors, Refusal>) -> (u32, Ancestors) {
+    match answer {
+        Ok(found) => (0, found),
+        Err(refusal) => (u32::from(refusal), Ancestors { total: 0, steps: 0 }),
+    }
 }
 
 fn ancestors(
@@ -41,108 +51,83 @@ fn ancestors(
     lent: u32,
     answers: &mut [u32],
 ) -> io::Result<()> {
-    let room = least(words::wide(lent), answers.len());
-    let r = queries::find_ancestors(img, n[1], n[2], choice, &mut answers[0..room]);
-    console::line(rt, &[r.number, console::narrow(r.total)])?;
-    console::rows(rt, &answers[0..room], r.total)
+    let room = least(lent as usize, answers.len());
+    let (number, a) = found(queries::find_ancestors(img, n[1], n[2], choice, &mut answers[..room]));
+    console::line(rt, &[number, console::narrow(a.total)])?;
+    console::rows(rt, &answers[..room], a.total)
 }
 
 // The same search with no room, for its step count.
-fn steps(
-    rt: &impl Print,
-    img: &[u32],
-    n: Numbers,
-    choice: Choice,
-    answers: &mut [u32],
-) -> io::Result<()> {
-    let none: usize = 0;
-    let r = queries::find_ancestors(img, n[1], n[2], choice, &mut answers[0..none]);
+fn steps(rt: &impl Print, img: &[u32], n: Numbers, choice: Choice) -> io::Result<()> {
+    let (number, a) = found(queries::find_ancestors(img, n[1], n[2], choice, &mut []));
     console::line(
         rt,
-        &[r.number, console::narrow(r.total), console::narrow(r.steps)],
+        &[number, console::narrow(a.total), console::narrow(a.steps)],
     )
 }
 
 fn parent(rt: &impl Print, img: &[u32], n: Numbers) -> io::Result<()> {
-    let p = queries::find_parent(img, n[1], n[2], n[3]);
-    match p {
-        Parent::Refused(number) => console::line(rt, &[number, 0]),
-        Parent::Nothing => console::line(rt, &[0, 0]),
-        Parent::At(r) => console::line(rt, &[0, 1, r.start, r.end, r.level, r.reference]),
+    match queries::find_parent(img, n[1], n[2], n[3]) {
+        Err(refusal) => console::line(rt, &[u32::from(refusal), 0]),
+        Ok(None) => console::line(rt, &[0, 0]),
+        Ok(Some(r)) => console::line(rt, &[0, 1, r.start, r.end, r.level, r.reference]),
     }
 }
 
-// Whether more remain, as a number.
-fn told(more: bool) -> u32 {
-    if more { 1 } else { 0 }
+// What a search by bounds answers, and the rows that it wrote: none where it is refused.
+fn listed(rt: &impl Print, answer: Result<Listing, Refusal>, answers: &[u32]) -> io::Result<()> {
+    match answer {
+        Ok(l) => {
+            console::line(rt, &[0, console::narrow(l.count), u32::from(l.more)])?;
+            console::rows(rt, answers, l.count)
+        }
+        Err(refusal) => console::line(rt, &[u32::from(refusal), 0, 0]),
+    }
 }
 
 fn descendants(rt: &impl Print, img: &[u32], n: Numbers, answers: &mut [u32]) -> io::Result<()> {
-    let room = least(words::wide(n[5]), answers.len());
-    let r = queries::find_descendants(img, n[1], n[2], n[3], n[4], &mut answers[0..room]);
-    console::line(rt, &[r.number, console::narrow(r.count), told(r.more)])?;
-    console::rows(rt, &answers[0..room], r.count)
+    let room = least(n[5] as usize, answers.len());
+    let answer = queries::find_descendants(img, n[1], n[2], n[3], n[4], &mut answers[..room]);
+    listed(rt, answer, &answers[..room])
 }
 
 fn children(rt: &impl Print, img: &[u32], n: Numbers, answers: &mut [u32]) -> io::Result<()> {
-    let room = least(words::wide(n[6]), answers.len());
-    let r = queries::find_children(img, n[1], n[2], n[3], n[4], n[5], &mut answers[0..room]);
-    console::line(rt, &[r.number, console::narrow(r.count), told(r.more)])?;
-    console::rows(rt, &answers[0..room], r.count)
+    let room = least(n[6] as usize, answers.len());
+    let answer = queries::find_children(img, n[1], n[2], n[3], n[4], n[5], &mut answers[..room]);
+    listed(rt, answer, &answers[..room])
 }
 
 // A search in an image.
 fn search(
     rt: &impl Print,
     img: &[u32],
-    what: usize,
+    call: Call,
     n: Numbers,
     answers: &mut [u32],
 ) -> io::Result<()> {
-    if what == script::ANCESTORS {
-        return ancestors(rt, img, n, Choice::Strict, n[3], answers);
-    }
-    if what == script::STEPS {
-        return steps(rt, img, n, Choice::Strict, answers);
-    }
-    if what == script::AROUND {
-        return ancestors(rt, img, n, flat::choice_of(n[3]), n[4], answers);
-    }
-    if what == script::AROUND_STEPS {
-        return steps(rt, img, n, flat::choice_of(n[3]), answers);
-    }
-    if what == script::PARENT {
-        return parent(rt, img, n);
-    }
-    if what == script::DESCENDANTS {
-        return descendants(rt, img, n, answers);
-    }
-    children(rt, img, n, answers)
-}
-
-// What stands in every place before a batch.
-fn fill(places: &mut [u32]) {
-    let mut i: usize = 0;
-    while i < places.len() {
-        places[i] = 4294967295;
-        i += 1;
+    match call {
+        Call::Ancestors => ancestors(rt, img, n, Choice::Strict, n[3], answers),
+        Call::Steps => steps(rt, img, n, Choice::Strict),
+        Call::Around => ancestors(rt, img, n, flat::choice_of(n[3]), n[4], answers),
+        Call::AroundSteps => steps(rt, img, n, flat::choice_of(n[3])),
+        Call::Parent => parent(rt, img, n),
+        Call::Descendants => descendants(rt, img, n, answers),
+        _ => children(rt, img, n, answers),
     }
 }
 
 // All places of a batch on one line; no line where there is none.
 fn told_places(rt: &impl Print, places: &[u32]) -> io::Result<()> {
-    let mut at: usize = 0;
-    while at < places.len() {
+    for (at, place) in places.iter().enumerate() {
         if at != 0 {
             console::text(rt, b" ")?;
         }
-        console::number(rt, words::wide(places[at]))?;
-        at += 1;
+        console::number(rt, *place as usize)?;
     }
-    if at != 0 {
-        console::text(rt, b"\n")?;
+    if places.is_empty() {
+        return Ok(());
     }
-    Ok(())
+    console::text(rt, b"\n")
 }
 
 // The first words of the given buffer as the items of a batch.
@@ -153,38 +138,29 @@ fn batch(
     given: &[u32],
     answers: &mut [u32],
 ) -> io::Result<()> {
-    let items = least(words::wide(n[1]), given.len());
-    let room = least(words::wide(n[2]), answers.len());
-    fill(&mut answers[0..room]);
-    console::line(
-        rt,
-        &[index::batch(img, &given[0..items], &mut answers[0..room])],
-    )?;
-    told_places(rt, &answers[0..room])
+    let items = least(n[1] as usize, given.len());
+    let room = least(n[2] as usize, answers.len());
+    answers[..room].fill(u32::MAX); // what stands in every place before
+    number(rt, index::batch(img, &given[..items], &mut answers[..room]))?;
+    told_places(rt, &answers[..room])
 }
 
 // A call on an image.
 pub fn call(
     rt: &impl Print,
     img: &mut [u32],
-    what: usize,
+    call: Call,
     n: Numbers,
     given: &[u32],
     answers: &mut [u32],
 ) -> io::Result<()> {
-    if what == script::OPEN {
-        return open(rt, img, n);
+    match call {
+        Call::Open => open(rt, img, n),
+        Call::Save => save(rt, img, n),
+        Call::Delete => number(rt, index::delete(img, n[1], n[2])),
+        Call::Batch => batch(rt, img, n, given, answers),
+        _ => search(rt, img, call, n, answers),
     }
-    if what == script::SAVE {
-        return save(rt, img, n);
-    }
-    if what == script::DELETE {
-        return console::line(rt, &[index::delete(img, n[1], n[2])]);
-    }
-    if what == script::BATCH {
-        return batch(rt, img, n, given, answers);
-    }
-    search(rt, img, what, n, answers)
 }
 
 // The join of two images, which may be one and the same.
@@ -195,16 +171,20 @@ pub fn join(
     n: Numbers,
     answers: &mut [u32],
 ) -> io::Result<()> {
-    let room = least(words::wide(n[4]), answers.len());
+    let room = least(n[4] as usize, answers.len());
     let kind = flat::kind_of(n[3]);
-    let r = queries::join_sets(outer, inner, n[2], kind, &mut answers[0..room]);
-    console::line(rt, &[r.number, console::narrow(r.total)])?;
-    console::rows(rt, &answers[0..room], r.total)
+    match queries::join_sets(outer, inner, n[2], kind, &mut answers[..room]) {
+        Ok(total) => {
+            console::line(rt, &[0, console::narrow(total)])?;
+            console::rows(rt, &answers[..room], total)
+        }
+        Err(refusal) => console::line(rt, &[u32::from(refusal), 0]),
+    }
 }
 
 // Writes a word, where there is one.
 pub fn put(to: &mut [u32], at: u32, value: u32) {
-    let i = words::wide(at);
+    let i = at as usize;
     if i < to.len() {
         to[i] = value;
     }

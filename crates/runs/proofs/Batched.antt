@@ -1,11 +1,11 @@
 -- A batch is a run of single calls: the same answers, and the same words at the end. So whatever is shown of runs of single calls holds of every run, and a run may be cut at any of its calls,
 -- within a batch too.
 -- Assumes nothing.
-use Prim.Native.Nat.{ℕ, ◌≤◌}
+use Prim.Native.Nat.{ℕ, suc, ◌≤◌}
 use mathlib.Core.Path.{◌≡◌, refl, sym, ap, ◌∙◌, subst}
 use mathlib.Core.Bool.{false}
 use mathlib.Core.List.{List, [], ◌∷◌, ◌++◌}
-use lib.ListN.{length}
+use lib.ListN.{length, set}
 use lib.Seq.{sets}
 use native.Mathlib.Omega.{arith}
 use Rattle.regions.specs.Items.{Item, items_in, items_of}
@@ -16,7 +16,6 @@ use Rattle.regions.proofs.Items.{items_many}
 use Rattle.image.specs.Valid.{valid}
 use Rattle.index.specs.Batches.{Single, Singly, Batches}
 use Rattle.index.specs.Batches.Singly.{none as no_more, then as and_then}
-use Rattle.index.proofs.Opened.{sets_cons}
 use Rattle.index.proofs.Batched.{singly_many}
 use Rattle.plainruns.specs.Calls.{Which, Done}
 use Rattle.plainruns.specs.Calls.Which.{outer, inner}
@@ -24,6 +23,11 @@ use Rattle.runs.specs.Calls.{Lent, image_of, with_image, tells, Does, item_call,
 use Rattle.runs.specs.Calls.Does.{saves, deletes, refuses_item}
 use Rattle.runs.specs.Calls.Runs.{stop, go, batch}
 use Rattle.runs.specs.Calls.Singles.{none, then}
+
+-- what is written behind the first place of a list
+sets_cons : (x : ℕ) (l : List ℕ) (i : ℕ) (vs : List ℕ) → sets (x ∷ l) (suc i) vs ≡ x ∷ sets l i vs
+sets_cons x l i [] = refl
+sets_cons x l i (v ∷ vs) = sets_cons x (set l i v) (suc i) vs
 
 -- ONE ITEM is a call, by its own record
 item_does : (w : Which) (l : Lent) (v u : List ℕ) (i : Item) (n : ℕ) → Single v i n u → Does (with_image w v l) (item_call w i) (tells n 0 false [] [] 0) (with_image w u l)

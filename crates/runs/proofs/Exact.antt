@@ -9,11 +9,14 @@ use mathlib.Core.List.{List, [], ◌∷◌}
 use lib.Dec.{T}
 use lib.ListN.{length}
 use native.Mathlib.Omega.{arith}
+use Rattle.std.specs.Prelude.{Option, Result}
 use Rattle.words.specs.Lists.{filter, Pairs, In}
 use Rattle.words.proofs.Tests.{T_of, and_left, and_right}
 use Rattle.words.proofs.Listed.{pairs_mono, pairs_kept, in_kept, in_let, in_filter}
 use Rattle.words.proofs.Says.{Says, and_says, lt_says, le_says, true_so, so_true}
 use Rattle.regions.specs.Numbers.{image_first}
+use Rattle.regions.specs.Refusals.{number_told}
+use Rattle.regions.specs.declared.Refusal.{Refusal}
 use Rattle.regions.specs.declared.Region.{Region}
 use Rattle.regions.specs.declared.Choice.{Choice}
 use Rattle.regions.specs.declared.Choice.TheVariants.{Strict, WithSelf}
@@ -29,8 +32,7 @@ use Rattle.regions.proofs.Parents.{parents_few}
 use Rattle.image.specs.Read.{set_of}
 use Rattle.image.specs.Valid.{valid}
 use Rattle.image.proofs.Sound.{set_rises, set_nests, set_leveled, valid_with_itself, valid_one_parent_each}
-use Rattle.queries.specs.declared.Parent.{Parent}
-use Rattle.queries.specs.Searches.{FindsAncestors, parent_number, parent_found, FindsParent, FindsDescendants, FindsChildren}
+use Rattle.queries.specs.Searches.{FindsAncestors, parent_found, FindsParent, FindsDescendants, FindsChildren}
 use Rattle.queries.specs.Joins.{JoinsSets}
 use Rattle.regions.proofs.Numbers.{image_right}
 use Rattle.runs.specs.Exact.{AncestorOf, ParentOf, DescendantIn, ChildIn, OuterFirst, SoonerFirst, Exactly, TheOne}
@@ -136,7 +138,7 @@ pub no_parent : (S : Set) (p l : ℕ) → parent p l S ≡ [] → (r : Region) �
 no_parent S p l e r h k = subst (λ rs. In r rs) e ((parents S p l r).1 (h, k))
 
 -- none where the set has none, else the one that it has
-pub parent_found_lem : (w : List ℕ) (a p l : ℕ) (x : Parent) → FindsParent w a p l x → parent_number x ≡ 0
+pub parent_found_lem : (w : List ℕ) (a p l : ℕ) (x : Result (Option Region) Refusal) → FindsParent w a p l x → number_told x ≡ 0
     → (parent_found x ≡ [] → (r : Region) → In r (set_of w).regions → ParentOf p l r → ⊥)
     × ((r : Region) → parent_found x ≡ r ∷ [] → TheOne (set_of w) (ParentOf p l) r)
 parent_found_lem w a p l x f z = ((λ e. no_parent (set_of w) p l (sym (f.done z) ∙ e)), (λ r e. the_parent (set_of w) p l r (sym (f.done z) ∙ e)))

@@ -13,6 +13,7 @@ use Rattle.words.proofs.Tests.{by_test, eq_of, ne_of, eq_yes, eq_no}
 use Rattle.regions.specs.declared.Region.{Region}
 use Rattle.regions.specs.declared.Seat.{Seat}
 use Rattle.regions.specs.Numbers.{unless}
+use Rattle.regions.specs.Refusals.{number_told}
 use Rattle.regions.specs.Sets.{Set, saved, deleted}
 use Rattle.regions.specs.Limits.{region_width, pair_width}
 use Rattle.regions.specs.Calls.{written, count_written, more_remain, region_words, open_set_no, save_no, delete_no, point_no, ancestors, parent, bounds_no, descendants, children, Pair, joined, join_no, pair_words}
@@ -23,7 +24,7 @@ use Rattle.image.specs.Read.{set_of as setIn}
 use Rattle.image.specs.Valid.{valid}
 use Rattle.pages.specs.Layout.{image_words}
 use Rattle.index.specs.Opening.{open_no}
-use Rattle.queries.specs.Searches.{parent_number, parent_found}
+use Rattle.queries.specs.Searches.{parent_found}
 use Rattle.index.proofs.Empty.{opens_valid}
 use Rattle.plainruns.specs.Calls.{Which, State, set_of, with_set, with_desk, Call, Shown, Answer, says, refuses, lists, pages, finds, joins, hands_back, looked, answer, noted, unnoted, next, Step, Done, Run, Opened}
 use Rattle.plainruns.specs.Calls.Which.{outer, inner}
@@ -187,7 +188,7 @@ means so si {l = l} notes (finds_ancestors {a = a} {p = p} {ch = ch} {out = out}
 )
 means so si {l = l} notes (finds_parent {a = a} {p = p} {v = v} {x = x} w h) g k = (
   record {
-    answers = shown_finds (parent_number x) (point_no a p) (parent_found x) _ (number_own (valid (image_of w l)) (parent_number x) _ (k w) h.number_is) h.refused h.done
+    answers = shown_finds (number_told x) (point_no a p) (parent_found x) _ (number_own (valid (image_of w l)) (number_told x) _ (k w) h.number_is) h.refused h.done
         ∙ ap (λ S. unless (point_no a p) (finds (parent p v S)) (says (point_no a p))) (sym (set_of_lem w l notes));
     leaves = refl;
   },

@@ -1,6 +1,6 @@
 -- Runs of the public calls: what a caller lends (two images, eight seats, a round buffer), one call by its own record, a run of calls and batches, and how it begins.
 -- Assumes nothing.
-use Rattle.std.specs.Prelude.{ℕ, suc, ◌*◌, ◌<◌, min, ◌≡◌, Bool, true, false, List, [], ◌∷◌, ◌++◌, length, take, drop, get_or, replicate}
+use Rattle.std.specs.Prelude.{ℕ, suc, ◌*◌, ◌<◌, min, ◌≡◌, Bool, true, false, List, [], ◌∷◌, ◌++◌, length, take, drop, get_or, replicate, Option, Result}
 use Rattle.std.specs.Borrow.{Bor}
 use Rattle.regions.specs.Limits.{account_count, buffer_words}
 use Rattle.regions.specs.declared.Region.{Region}
@@ -11,16 +11,17 @@ use Rattle.regions.specs.declared.Open.{Open}
 use Rattle.regions.specs.declared.Seat.{Seat}
 use Rattle.regions.specs.Sets.{Set}
 use Rattle.regions.specs.Numbers.{DONE}
+use Rattle.regions.specs.Refusals.{number_told}
+use Rattle.regions.specs.declared.Refusal.{Refusal}
 use Rattle.regions.specs.Items.{Item, items_of}
 use Rattle.regions.specs.Items.Item.{save_item, delete_item, unknown_item}
 use Rattle.regions.specs.Desk.{closed, open_at, seat_at, seat_word}
 use Rattle.image.specs.Read.{set_of}
 use Rattle.image.specs.Valid.{valid}
-use Rattle.queries.specs.declared.Parent.{Parent}
 use Rattle.index.specs.Opening.{OpensSet}
 use Rattle.index.specs.Changes.{Saves, Deletes}
 use Rattle.index.specs.Batches.{Single, Batches}
-use Rattle.queries.specs.Searches.{FindsAncestors, FindsParent, FindsDescendants, FindsChildren, parent_number, parent_found}
+use Rattle.queries.specs.Searches.{FindsAncestors, FindsParent, FindsDescendants, FindsChildren, parent_found}
 use Rattle.queries.specs.Joins.{JoinsSets}
 use Rattle.desk.specs.Promises.{OpensDesk, OpensSeat, ClosesSeat, Rounds, LendsPart, PartNumber}
 use Rattle.plainruns.specs.Calls.{Which, State, Call, Shown, Answer, Done, left, Served, Passed}
@@ -72,8 +73,8 @@ pub data Does : Lent → Call → Answer → Lent → Type 0 where
       → Does l (delete w a p) (tells number 0 false [] [] 0) (with_image w w' l)
   finds_ancestors : {l : Lent} {a p : ℕ} {ch : Choice} {out : List ℕ} {number total steps : ℕ} {out' : List ℕ} (w : Which)
       → FindsAncestors (image_of w l) a p ch out number total steps out' → Does l (look a (ancestor_search w p ch out)) (tells number total false [] out' steps) l
-  finds_parent : {l : Lent} {a p v : ℕ} {x : Parent} (w : Which) → FindsParent (image_of w l) a p v x
-      → Does l (look a (parent_search w p v)) (tells (parent_number x) 0 false (parent_found x) [] 0) l
+  finds_parent : {l : Lent} {a p v : ℕ} {x : Result (Option Region) Refusal} (w : Which) → FindsParent (image_of w l) a p v x
+      → Does l (look a (parent_search w p v)) (tells (number_told x) 0 false (parent_found x) [] 0) l
   finds_descendants : {l : Lent} {a b e f : ℕ} {out : List ℕ} {number count : ℕ} {more : Bool} {out' : List ℕ} (w : Which)
       → FindsDescendants (image_of w l) a b e f out number count more out' → Does l (look a (descendant_search w b e f out)) (tells number count more [] out' 0) l
   finds_children : {l : Lent} {a b e v f : ℕ} {out : List ℕ} {number count : ℕ} {more : Bool} {out' : List ℕ} (w : Which)

@@ -11,8 +11,8 @@ ghost use Rattle.path.specs.Path.{path_of, padded};
 ghost use Rattle.xrtree.specs.Search.{find, steps};
 ghost use Rattle.tally.specs.Tallies.{found_list, Tallied, AncestorsFound, fresh_tally};
 
-use regions::Choice;
-use tally::{Found, Tally, Task};
+use regions::{Choice, Region};
+use tally::{Tally, Task};
 
 // Goes along p's path: the lists of each inner page, from the root down, then the leaf. Each page is a step.
 fn search_path(
@@ -29,15 +29,14 @@ fn search_path(
     ensures { Tallied task out.old fresh_tally (find (depth_of img.now) choice p (tree_of img.now)) (steps (depth_of img.now) choice p (tree_of img.now)) out.new result }
 {
     let depth = path::depth(img);
-    let mut t = tally::fresh();
-    let mut i: usize = 0;
-    while i < depth {
-        t = tally::step(t);
-        t = meets::page_lists(img, way[i], choice, p, task, out, t);
-        i += 1;
+    let mut t = Tally::fresh();
+    for i in 0..depth {
+        t.step();
+        meets::page_lists(img, way[i], choice, p, task, out, &mut t);
     }
-    t = tally::step(t);
-    leafmet::leaf_own(img, way[depth], choice, p, task, out, t)
+    t.step();
+    leafmet::leaf_own(img, way[depth], choice, p, task, out, &mut t);
+    t
 }
 
 // THE SEARCH of a valid image for the ancestors of p, outermost first, along p's path.
@@ -68,25 +67,20 @@ pub fn ancestors(img: &[u32], choice: Choice, p: u32, out: &mut [u32]) -> Tally
 
 // PARENT SEARCH of a valid image, always strict: the ancestor whose level is one less, or none. No two ancestors have the same level, so whichever was taken is the only
 // one. One word has no room for a region, so none is written.
-pub fn parent(img: &[u32], p: u32, level: u32) -> Found
+pub fn parent(img: &[u32], p: u32, level: u32) -> Option<Region>
     requires { T (valid img.now) }
     ensures { found_list result ≡ parent p level (set_of img.now) }
 {
     if level == 0 {
-        return Found::Nothing;
+        return None;
     }
-    let mut no_room = [0u32; 1];
     let t = search(
         img,
         path::descend(img, p),
         Choice::Strict,
         p,
         Task::Above(level),
-        &mut no_room,
+        &mut [0; 1],
     );
-    let last = t.last;
-    let Found::At(a) = last else {
-        return Found::Nothing;
-    };
-    Found::At(a)
+    t.last
 }

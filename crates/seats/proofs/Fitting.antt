@@ -1,46 +1,19 @@
--- The test of a desk seat by seat: what has been found after k seats, that after the last one it is the desk's test, and what a desk shows that passed it.
+-- The test of a desk: what the chain over its seats answers, and what a desk shows that passed it.
 -- Assumes nothing.
-use Prim.Native.Nat.{ℕ, zero, suc, ◌+◌, ◌<◌, ◌≤◌}
-use native.Mathlib.Numerals.{add-one}
+use Prim.Native.Nat.{ℕ, zero, suc, ◌<◌}
 use native.Mathlib.Omega.{arith}
-use mathlib.Core.Path.{◌≡◌, sym, ap, ◌∙◌}
-use mathlib.Core.Bool.{Bool, true, ◌&&◌}
+use mathlib.Core.Path.{◌≡◌}
+use mathlib.Core.Bool.{Bool, true}
 use mathlib.Core.List.{List, [], ◌∷◌}
-use lib.Dec.{eqb}
-use lib.ListN.{length, take, get_or}
-use lib.Seq.{take-suc, take-length}
+use lib.ListN.{length, get_or}
+use Rattle.std.specs.Prelude.{IsTrue, ◌↔◌}
+use Rattle.std.specs.List.{All as AllAt}
 use Rattle.words.specs.Lists.{all, All}
-use Rattle.words.proofs.Tests.{and_true, and_assoc}
-use Rattle.words.proofs.Listed.{all_test_append}
+use Rattle.words.proofs.Tests.{both, T_of, of_T}
 use Rattle.regions.specs.Desk.{seat_at, closed, seat_fits, desk_fits}
 use Rattle.regions.specs.declared.Seat.{Seat}
 use Rattle.regions.proofs.Done.{DeskOk, desk_fits_lem}
-use Rattle.regions.proofs.Seats.{seats_each}
-
-unfoldable pub fits_at : ℕ → List Seat → Bool
-fits_at zero ds = eqb (length ds) 8
-fits_at (suc k) ds = fits_at k ds && seat_fits (seat_at ds k)
-
-pub fits_next : (k : ℕ) (ds : List Seat) → (fits_at k ds && seat_fits (seat_at ds k)) ≡ fits_at (k + 1) ds
-unfolding fits_at
-fits_next k ds = ap (λ (i : ℕ). fits_at i ds) (sym (add-one k))
-
-all_next : (k : ℕ) (ds : List Seat) → k < length ds → (all seat_fits (take k ds) && seat_fits (seat_at ds k)) ≡ all seat_fits (take (suc k) ds)
-unfolding all
-all_next k ds h =
-    ap (λ (b : Bool). all seat_fits (take k ds) && b) (sym (and_true (seat_fits (seat_at ds k))))
-    ∙ sym (ap (all seat_fits) (take-suc ds k closed h) ∙ all_test_append seat_fits (take k ds) (seat_at ds k ∷ []))
-
-fits_so_far : (k : ℕ) (ds : List Seat) → k ≤ length ds → fits_at k ds ≡ (eqb (length ds) 8 && all seat_fits (take k ds))
-unfolding fits_at all
-fits_so_far zero ds h = sym (and_true (eqb (length ds) 8))
-fits_so_far (suc k) ds h =
-    ap (λ (b : Bool). b && seat_fits (seat_at ds k)) (fits_so_far k ds (omega arith)) ∙ and_assoc (eqb (length ds) 8) (all seat_fits (take k ds)) (seat_fits (seat_at ds k))
-    ∙ ap (λ (b : Bool). eqb (length ds) 8 && b) (all_next k ds h)
-
-pub fits_all : (ds : List Seat) → fits_at (length ds) ds ≡ desk_fits ds
-unfolding desk_fits
-fits_all ds = fits_so_far (length ds) ds (omega arith) ∙ ap (λ (l : List Seat). eqb (length ds) 8 && all seat_fits l) (take-length ds)
+use Rattle.regions.proofs.Seats.{seats_each, each_seats}
 
 -- A DESK THAT FITS
 pub eight_seats : (ds : List Seat) → desk_fits ds ≡ true → length ds ≡ 8
@@ -56,3 +29,14 @@ each_ok ds i k h = all_at (λ s. seat_fits s ≡ true) ds i closed (seats_each d
 
 pub each_fits : (ds : List Seat) (i : ℕ) → desk_fits ds ≡ true → i < 8 → seat_fits (seat_at ds i) ≡ true
 each_fits ds i e h = each_ok ds i (desk_fits_lem ds e) h
+
+-- A CHAIN OVER THE SEATS asks each by its place
+at_all : {A : Type 0} (P : A → Type 0) (xs : List A) → ((i : ℕ) (d : A) → i < length xs → P (get_or xs i d)) → All P xs
+at_all P [] h = tt
+at_all P (x ∷ xs) h = (h zero x (omega arith), at_all P xs (λ i d l. h (suc i) d (omega arith)))
+
+pub all_fit : (b : Bool) (ds : List Seat) → (IsTrue b ↔ AllAt (λ s. IsTrue (seat_fits s)) ds) → b ≡ all seat_fits ds
+all_fit b ds e =
+    both b (all seat_fits ds)
+    (λ t. T_of (each_seats ds (at_all (λ s. seat_fits s ≡ true) ds (e.0 (of_T b t)))))
+    (λ t. T_of (e.1 (λ i d l. all_at (λ s. seat_fits s ≡ true) ds i d (seats_each ds (of_T _ t)) l)))

@@ -1,12 +1,13 @@
-// SEATS BY VALUE: what is decided of one seat, and of the eight together, with nothing lent but words to read. The calls on the desk read, ask here, and store.
+// SEATS: what is decided of one seat by value, and whether the eight together may be served. The calls on the desk read, ask here, and store.
 #![tactic(auto)]
 
-ghost use Rattle.std.specs.Prelude.{◌≡◌, ◌&&◌, ◌+◌, ◌*◌, ◌≤◌, length, replicate};
-ghost use Rattle.regions.specs.Limits.{pair_width, seat_count};
-ghost use Rattle.regions.specs.Desk.{mark_fits, seat_fits, desk_fits, closed, limit_asked};
-ghost use Rattle.seats.specs.Steps.{Opens, Closes, asked_no, parts_no, rounds_no, moved, mark_read};
+ghost use Rattle.std.specs.Prelude.{◌≡◌, ◌+◌, ◌*◌, ◌≤◌, length};
+ghost use Rattle.regions.specs.Limits.{pair_width};
+ghost use Rattle.regions.specs.Refusals.{number_told};
+ghost use Rattle.regions.specs.Desk.{mark_fits, seat_fits, desk_fits, limit_asked};
+ghost use Rattle.seats.specs.Steps.{Opens, Closes, seat_left, asked_no, rounds_no, moved, mark_read};
 
-use regions::{Kind, Mark, Open, Seat, State};
+use regions::{Kind, Mark, Open, Refusal, Seat, State};
 
 // RANGES. Whether a mark's two starts lie in the seat's account.
 fn mark_fits(account: u32, mark: Mark) -> bool
@@ -14,12 +15,7 @@ fn mark_fits(account: u32, mark: Mark) -> bool
 {
     match mark {
         Mark::Fresh => true,
-        Mark::Last(a, d) => {
-            if regions::account_of(a) != account {
-                return false;
-            }
-            regions::account_of(d) == account
-        }
+        Mark::Last(a, d) => regions::account_of(a) == account && regions::account_of(d) == account,
     }
 }
 
@@ -27,10 +23,10 @@ fn mark_fits(account: u32, mark: Mark) -> bool
 fn seat_fits(s: Seat) -> bool
     ensures { result ≡ seat_fits s }
 {
-    let st = s.state;
-    match st {
+    match s.state {
         State::Closed => true,
         State::Open(o) => {
+            // test by test, and no chain of four `&&`, whose branches a proof would have to tell apart
             if regions::LAST_ACCOUNT < o.account {
                 return false;
             }
@@ -40,48 +36,19 @@ fn seat_fits(s: Seat) -> bool
             if regions::MOST_A_ROUND < o.limit {
                 return false;
             }
-            let m = o.mark;
-            mark_fits(o.account, m)
+            mark_fits(o.account, o.mark)
         }
     }
 }
 
-// Whether one seat more fits, where all before it did.
-pub fn still_fits(ok: bool, s: Seat) -> bool
-    ensures { result ≡ (ok && seat_fits s) }
-{
-    if ok { seat_fits(s) } else { false }
-}
-
 // Eight seats, none of which breaks its ranges.
-pub fn desk_fits(desk: [Seat; regions::SEAT_COUNT]) -> bool
-    ensures { result ≡ desk_fits desk }
+pub fn desk_fits(desk: &[Seat]) -> bool
+    ensures { result ≡ desk_fits desk.now }
 {
-    let mut ok = true;
-    let mut i = 0;
-    while i < regions::SEAT_COUNT {
-        ok = still_fits(ok, desk[i]);
-        i += 1;
-    }
-    ok
+    desk.len() == regions::SEAT_COUNT && desk.iter().all(|s| seat_fits(*s))
 }
 
-// OPENING AND CLOSING. The desk as it is opened.
-pub fn opened_desk() -> [Seat; regions::SEAT_COUNT]
-    ensures { result ≡ replicate seat_count closed }
-{
-    let s = regions::closed_seat();
-    [s; regions::SEAT_COUNT]
-}
-
-// A seat after a call on it, and the call's number. A refusal hands the seat back as it was, so that it may be stored in any case.
-#[derive(Clone, Copy)]
-pub struct Change {
-    pub seat: Seat,
-    pub number: u32,
-}
-
-// Whoever asks for limit 0 takes the house's.
+// OPENING AND CLOSING. Whoever asks for limit 0 takes the house's.
 fn limit_asked(limit: u32) -> u32
     ensures { result ≡ limit_asked limit }
 {
@@ -91,74 +58,55 @@ fn limit_asked(limit: u32) -> u32
     limit
 }
 
-// SEAT, ACCOUNT, LIMIT.
-pub fn opens(s: Seat, account: u32, kind: Kind, limit: u32) -> Change
-    ensures { Opens s account kind limit result.number result.seat }
+// The seat as it is opened: SEAT, ACCOUNT, LIMIT.
+pub fn opens(s: Seat, account: u32, kind: Kind, limit: u32) -> Result<Seat, Refusal>
+    ensures { Opens s account kind limit (number_told result) (seat_left s result) }
 {
-    let st = s.state;
-    match st {
-        State::Open(_) => Change {
-            seat: s,
-            number: regions::SEAT, // somebody sits there
-        },
+    match s.state {
+        State::Open(_) => Err(Refusal::Seat), // somebody sits there
         State::Closed => {
             if regions::LAST_ACCOUNT < account {
-                return Change {
-                    seat: s,
-                    number: regions::ACCOUNT,
-                };
+                return Err(Refusal::Account);
             }
             if regions::MOST_A_ROUND < limit {
-                return Change {
-                    seat: s,
-                    number: regions::LIMIT,
-                };
+                return Err(Refusal::Limit);
             }
-            let m = Mark::Fresh;
-            let o = Open {
-                account: account,
-                kind: kind,
-                limit: limit_asked(limit),
-                mark: m,
-            };
-            let q = State::Open(o);
-            let d = Seat { state: q };
-            Change { seat: d, number: 0 }
+            Ok(Seat {
+                state: State::Open(Open {
+                    account,
+                    kind,
+                    limit: limit_asked(limit),
+                    mark: Mark::Fresh,
+                }),
+            })
         }
     }
 }
 
-// SEAT. The mark is forgotten.
-pub fn closes(s: Seat) -> Change
-    ensures { Closes s result.number result.seat }
+// The seat as it is closed: SEAT. The mark is forgotten.
+pub fn closes(s: Seat) -> Result<Seat, Refusal>
+    ensures { Closes s (number_told result) (seat_left s result) }
 {
-    let st = s.state;
-    match st {
-        State::Closed => Change {
-            seat: s,
-            number: regions::SEAT, // nobody sits there
-        },
-        State::Open(_) => Change {
-            seat: regions::closed_seat(),
-            number: 0,
-        },
+    match s.state {
+        State::Closed => Err(Refusal::Seat), // nobody sits there
+        State::Open(_) => Ok(regions::closed_seat()),
     }
 }
 
-// A ROUND. Its number: IMAGE, then DESK.
-pub fn round_number(images: bool, desk: bool, words: usize) -> u32
-    ensures { result ≡ rounds_no images desk words }
+// A ROUND: IMAGE, then DESK.
+pub fn may_round(images: bool, desk: bool, words: usize) -> Result<(), Refusal>
+    ensures { number_told result ≡ rounds_no images desk words }
 {
     if !images {
-        return regions::IMAGE;
+        return Err(Refusal::Image);
     }
     if !desk {
-        return regions::DESK;
+        return Err(Refusal::Desk);
     }
-    if words == regions::BUFFER_WORDS {
-        return 0;
+    if words != regions::BUFFER_WORDS {
+        return Err(Refusal::Desk);
     }
-    regions::DESK
+    Ok(())
 }
 
 // How many pairs an open seat is handed in a turn, at most.
@@ -184,47 +132,22 @@ pub fn mark_behind(mark: Mark, words: &[u32], first: usize, n: usize) -> Mark
 pub fn moved(o: Open, mark: Mark) -> Seat
     ensures { result ≡ moved o mark }
 {
-    let kind = o.kind;
-    let p = Open {
-        account: o.account,
-        kind: kind,
-        limit: o.limit,
-        mark: mark,
-    };
-    let q = State::Open(p);
-    Seat { state: q }
+    Seat {
+        state: State::Open(Open { mark, ..o }),
+    }
 }
 
-// A PART. The number of a request for count pairs of one seat's part: SEAT, LIMIT.
-pub fn asked_of(s: Seat, count: u32) -> u32
-    ensures { result ≡ asked_no s.state count }
+// A PART: whether count pairs of one seat's part may be asked for: SEAT, LIMIT.
+pub fn may_ask(s: Seat, count: u32) -> Result<(), Refusal>
+    ensures { number_told result ≡ asked_no s.state count }
 {
-    let st = s.state;
-    match st {
-        State::Closed => regions::SEAT,
+    match s.state {
+        State::Closed => Err(Refusal::Seat), // it has no part
         State::Open(o) => {
-            let limit = o.limit;
-            if limit < count {
-                return regions::LIMIT;
+            if o.limit < count {
+                return Err(Refusal::Limit);
             }
-            0
+            Ok(())
         }
     }
-}
-
-// The number of a request for a part of a buffer so many words long: DESK, SEAT, LIMIT.
-pub fn part_number(desk: [Seat; regions::SEAT_COUNT], words: usize, i: u32, count: u32) -> u32
-    ensures { result ≡ parts_no desk words i count }
-{
-    if !desk_fits(desk) {
-        return regions::DESK;
-    }
-    if words != regions::BUFFER_WORDS {
-        return regions::DESK;
-    }
-    if regions::LAST_SEAT < i {
-        return regions::SEAT;
-    }
-    let at = i as usize;
-    asked_of(desk[at], count)
 }

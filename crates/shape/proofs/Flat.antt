@@ -10,11 +10,11 @@ use native.Mathlib.Omega.{arith}
 use Rattle.words.specs.Lists.{all}
 use Rattle.words.proofs.Tests.{and_false, lt_yes}
 use Rattle.xrtree.specs.Tree.{Item}
-use Rattle.passes.specs.Run.{wrong, step_page, step_leaf, step_code, finished}
+use Rattle.std.specs.Prelude.{Some, None, option_and_then}
+use Rattle.passes.specs.Run.{step_page, step_leaf, step_code, finished}
 use Rattle.passes.specs.declared.Passed.{Passed}
-use Rattle.shape.specs.Run.{Event, code, step, run}
+use Rattle.shape.specs.Run.{Event, code, step, run, run_finished}
 use Rattle.shape.specs.Run.Event.{page, leaf, item}
-use Rattle.shape.proofs.Run.{run_wrong}
 
 abbrev pub each : {A B : Type 0} → (A → List B) → List A → List B
 each f [] = []
@@ -51,21 +51,17 @@ chained l [] = eqb l 1
 chained l (q ∷ qs) = (eqb l 0 || eqb l (q.0 + 1)) && chained (q.1 + 1) qs
 
 abbrev pub going : ℕ → ℕ → ℕ → Passed
-going l a g = record { ok = true; link = l; low = a; left = g }
+going l a g = record { link = l; low = a; left = g }
 
 abbrev pub Decides : List Event → Type 0
-Decides es = (l a g : ℕ) → finished (run es (going l a g))
+Decides es = (l a g : ℕ) → run_finished (run es (going l a g))
     ≡ (all (λ b. b) (each tests es) && (ascends a (each points es) && (chained l (each links es) && eqb (length (each tests es)) g)))
 
-end_wrong : (es : List Event) → finished (run es wrong) ≡ false
-unfolding finished
-end_wrong es = ap (λ (s : Passed). s.ok && (eqb s.link 1 && eqb s.left 0)) (run_wrong es)
-
-page_none : (es : List Event) (l a : ℕ) → finished (run es wrong)
+page_none : (es : List Event) (l a : ℕ) → false
     ≡ (all (λ b. b) (each tests es) && (ascends a (each points es) && (chained l (each links es) && eqb (suc (length (each tests es))) 0)))
-page_none es l a = rw (end_wrong es, eqb-suc-zero (length (each tests es))) (sym (simp and_false))
+page_none es l a = rw (eqb-suc-zero (length (each tests es))) (sym (simp and_false))
 
-page_some : (es : List Event) → Decides es → (l a g k : ℕ) (b : Bool) → b ≡ true → k ≡ g → finished (run es (cond b (going l a k) wrong))
+page_some : (es : List Event) → Decides es → (l a g k : ℕ) (b : Bool) → b ≡ true → k ≡ g → run_finished (option_and_then (run es) (cond b (Some (going l a k)) None))
     ≡ (all (λ b. b) (each tests es) && (ascends a (each points es) && (chained l (each links es) && eqb (suc (length (each tests es))) (suc g))))
 page_some es ih l a g k b e q = rw (e, q, eqb-suc-suc (length (each tests es)) g) (ih l a g)
 
@@ -76,17 +72,17 @@ page_true es ih l a (suc g) = page_some es ih l a g (suc g - 1) (ltb 0 (suc g)) 
 
 page_false : (es : List Event) → Decides (page false ∷ es)
 unfolding run step step_page all
-page_false es l a g = end_wrong es
+page_false es l a g = refl
 
-leaf_tested : (es : List Event) → Decides es → (n a g : ℕ) (b : Bool) → finished (run es (cond b (going (n + 1) a g) wrong))
+leaf_tested : (es : List Event) → Decides es → (n a g : ℕ) (b : Bool) → run_finished (option_and_then (run es) (cond b (Some (going (n + 1) a g)) None))
     ≡ (all (λ b. b) (each tests es) && (ascends a (each points es) && ((b && chained (n + 1) (each links es)) && eqb (length (each tests es)) g)))
 leaf_tested es ih n a g true = ih (n + 1) a g
-leaf_tested es ih n a g false = end_wrong es ∙ sym (simp and_false)
+leaf_tested es ih n a g false = sym (simp and_false)
 
-item_tested : (es : List Event) → Decides es → (c l g : ℕ) (b : Bool) → finished (run es (cond b (going l (c + 1) g) wrong))
+item_tested : (es : List Event) → Decides es → (c l g : ℕ) (b : Bool) → run_finished (option_and_then (run es) (cond b (Some (going l (c + 1) g)) None))
     ≡ (all (λ b. b) (each tests es) && ((b && ascends (c + 1) (each points es)) && (chained l (each links es) && eqb (length (each tests es)) g)))
 item_tested es ih c l g true = ih l (c + 1) g
-item_tested es ih c l g false = end_wrong es ∙ sym (simp and_false)
+item_tested es ih c l g false = sym (simp and_false)
 
 leaf_case : (p n : ℕ) (es : List Event) → Decides es → Decides (leaf p n ∷ es)
 unfolding run step step_leaf chained

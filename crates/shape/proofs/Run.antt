@@ -1,29 +1,22 @@
 -- The run over what is met, one after the other.
 -- Assumes nothing.
-use mathlib.Core.Path.{◌≡◌, refl, ap, ◌∙◌}
+use mathlib.Core.Path.{◌≡◌, refl}
 use mathlib.Core.List.{List, [], ◌∷◌, ◌++◌}
-use Rattle.passes.specs.Run.{wrong, step_page, step_leaf, step_code}
+use Rattle.std.specs.Prelude.{Option, Some, None, option_and_then}
 use Rattle.passes.specs.declared.Passed.{Passed}
 use Rattle.shape.specs.Run.{Event, step, run}
-use Rattle.shape.specs.Run.Event.{page, leaf, item}
 
--- no event mends the wrong state
-step_wrong : (e : Event) → step e wrong ≡ wrong
-unfolding step step_page step_leaf step_code
-step_wrong (page g) = refl
-step_wrong (leaf p next) = refl
-step_wrong (item x) = refl
+then_append : (es fs : List Event) (o : Option Passed) → ((t : Passed) → run (es ++ fs) t ≡ option_and_then (run fs) (run es t))
+    → option_and_then (run (es ++ fs)) o ≡ option_and_then (run fs) (option_and_then (run es) o)
+then_append es fs None h = refl
+then_append es fs (Some t) h = h t
 
-pub run_wrong : (es : List Event) → run es wrong ≡ wrong
-unfolding run
-run_wrong [] = refl
-run_wrong (e ∷ es) = ap (run es) (step_wrong e) ∙ run_wrong es
-
-pub run_append : (es fs : List Event) (s : Passed) → run (es ++ fs) s ≡ run fs (run es s)
+-- a run over two lists is a run over the second from where the first led
+pub run_append : (es fs : List Event) (s : Passed) → run (es ++ fs) s ≡ option_and_then (run fs) (run es s)
 unfolding run
 run_append [] fs s = refl
-run_append (e ∷ es) fs s = run_append es fs (step e s)
+run_append (e ∷ es) fs s = then_append es fs (step e s) (λ t. run_append es fs t)
 
-pub run_one : (e : Event) (es : List Event) (s : Passed) → run (e ∷ es) s ≡ run es (step e s)
+pub run_one : (e : Event) (es : List Event) (s : Passed) → run (e ∷ es) s ≡ option_and_then (run es) (step e s)
 unfolding run
 run_one e es s = refl

@@ -21,9 +21,10 @@ use Rattle.image.specs.Shape.{shapely}
 use Rattle.image.specs.Fills.{FillsFrom, root_least}
 use Rattle.image.proofs.Fills.{filled_fills}
 use Rattle.image.proofs.Listings.{listed_at, listed_leaf}
+use Rattle.std.specs.Prelude.{Option, Some, None, MatchOption}
 use Rattle.passes.specs.Run.{finished}
 use Rattle.passes.specs.declared.Passed.{Passed}
-use Rattle.shape.specs.Run.{Event, run, events_at, used_to}
+use Rattle.shape.specs.Run.{Event, run, run_finished, events_at, used_to}
 use Rattle.shape.proofs.Flat.{each, tests, points, links, ascends, chained, going, decides}
 use Rattle.shape.proofs.Follow.{points_of, links_of, links_linked, start_in, starts_same, starts_pairs}
 use Rattle.shape.proofs.Filling.{Held, tests_fills, fills_tests, tests_length, so_filled}
@@ -128,7 +129,7 @@ module _ (w : List ℕ) where
       (rw points_of ((ascends_says 0 (items h (tree h p))).so_yes (order_ascends h p d.fills d.separation d.starts)))
       (and_both (chained 0 (each links (events h p))) _ (rw (links_of, links_linked) d.links) (T_of (eq_yes _ _ e))))
 
-  pub whole : (h p : ℕ) → finished (run (events h p) (going 0 0 (used_to w 160))) ≡ declared h p
+  pub whole : (h p : ℕ) → run_finished (run (events h p) (going 0 0 (used_to w 160))) ≡ declared h p
   whole h p = decides (events h p) 0 0 (used_to w 160) ∙ both (flat h p) (declared h p) (λ t. so_declared h p (flat_so h p t)) (λ t. so_flat h p (declared_so h p t))
 
 -- THE IMAGE'S OWN TESTS
@@ -148,8 +149,12 @@ sized_yes : (w : List ℕ) → length w ≡ 12288 → 1 ≤ height_of w → heig
 unfolding sized
 sized_yes w l a b = rw (eq_yes (length w) 12288 l, le_yes 1 (height_of w) a, le_yes (height_of w) 4 b)
 
-pub ended : (w : List ℕ) (h least root left : ℕ) (e : Passed) (r : Bool) → length w ≡ 12288 → 1 ≤ h → h ≤ 4 → h ≡ height_of w → root ≡ root_of w → left ≡ used_to w 160
-    → least ≡ root_least (h - 1) → e ≡ run (events_at w (h - 1) least root) (going 0 0 left) → r ≡ finished e → r ≡ shapely w
+pub told : (o : Option Passed) (r : Bool) → MatchOption o (r ≡ false) (λ s. r ≡ finished s) → r ≡ run_finished o
+told None r h = h
+told (Some s) r h = h
+
+pub ended : (w : List ℕ) (h least root left : ℕ) (e : Option Passed) (r : Bool) → length w ≡ 12288 → 1 ≤ h → h ≤ 4 → h ≡ height_of w → root ≡ root_of w → left ≡ used_to w 160
+    → least ≡ root_least (h - 1) → e ≡ run (events_at w (h - 1) least root) (going 0 0 left) → r ≡ run_finished e → r ≡ shapely w
 unfolding shapely
 ended w h least root left e r l a b eh er em ek ee ef =
     ef ∙

@@ -1,12 +1,12 @@
 -- The pass over the tree, as a run over a flat list of events that the code follows.
 -- Assumes nothing.
-use Rattle.std.specs.Prelude.{ℕ, zero, suc, ◌+◌, ◌*◌, Bool, ◌&&◌, cond, List, [], ◌∷◌, ◌++◌, get_or}
+use Rattle.std.specs.Prelude.{ℕ, zero, suc, ◌+◌, ◌*◌, Bool, false, ◌&&◌, cond, List, [], ◌∷◌, ◌++◌, get_or, Option, Some, None, option_and_then}
 use Rattle.xrtree.specs.Tree.{Item}
 use Rattle.xrtree.specs.Tree.Item.{start, key}
 use Rattle.xrtree.specs.Rules.{within}
 use Rattle.pages.specs.Layout.{page_count, page_of, fill_of, next_of, entry_word, key_word, child_in, page_used}
 use Rattle.passes.specs.declared.Passed.{Passed}
-use Rattle.passes.specs.Run.{step_page, step_leaf, step_code}
+use Rattle.passes.specs.Run.{step_page, step_leaf, step_code, finished}
 
 -- a page that is right or wrong; a leaf, with the place of the leaf on its right; a start or a key
 pub data Event : Type 0 where
@@ -19,14 +19,20 @@ unfoldable pub code : Item → ℕ
 code (start s) = 2 * s + 1
 code (key k) = 2 * k
 
-unfoldable pub step : Event → Passed → Passed
+unfoldable pub step : Event → Passed → Option Passed
 step (page g) s = step_page g s
 step (leaf p next) s = step_leaf p next s
 step (item x) s = step_code (code x) s
 
-unfoldable pub run : List Event → Passed → Passed
-run [] s = s
-run (e ∷ es) s = run es (step e s)
+-- the first event that fails ends the run
+unfoldable pub run : List Event → Passed → Option Passed
+run [] s = Some s
+run (e ∷ es) s = option_and_then (run es) (step e s)
+
+-- whether a run came to its end, and found everything right
+abbrev pub run_finished : Option Passed → Bool
+run_finished None = false
+run_finished (Some s) = finished s
 
 -- a page in range, in use, and rightly filled
 unfoldable pub page_right : List ℕ → ℕ → ℕ → Bool

@@ -10,66 +10,50 @@ ghost use Rattle.shape.specs.Run.{run, page_right, start_events, leaf_events, ev
 use passes::Passed;
 
 // Past the n starts of the leaf at a place.
-fn pass_starts(img: &[u32], place: u32, n: usize, s: Passed) -> Passed
+fn pass_starts(img: &[u32], place: u32, n: usize, s: Passed) -> Option<Passed>
     requires { n ≤ 8 }
     ensures { result ≡ run (start_events (page_of img.now place) 0 n) s }
 {
     let mut t = s;
-    let mut i: usize = 0;
-    while i < n {
-        t = passes::pass_code(t, 2 * words::wide(pages::entry_start(img, place, i)) + 1);
-        i += 1;
+    for i in 0..n {
+        t = t.code(2 * pages::entry_start(img, place, i) as usize + 1)?;
     }
-    t
+    Some(t)
 }
 
 // Past the leaf at a place, after its page was tested.
-fn pass_entries(img: &[u32], place: u32, s: Passed) -> Passed
+fn pass_entries(img: &[u32], place: u32, s: Passed) -> Option<Passed>
     requires { fill_of (page_of img.now place) ≤ 8 }
     ensures { result ≡ run (leaf_events (page_of img.now place) place) s }
 {
-    let t = passes::pass_leaf(s, place, pages::next_leaf(img, place));
-    pass_starts(img, place, words::wide(pages::fill(img, place)), t)
+    let t = s.leaf(place, pages::next_leaf(img, place))?;
+    pass_starts(img, place, pages::fill(img, place) as usize, t)
 }
 
 // Whether the page is in range, in use, and rightly filled. (What more it holds may be read only then.)
 fn page_right(img: &[u32], least: u32, place: u32) -> bool
     ensures { result ≡ page_right img.now least place }
 {
-    if place < 1 {
-        return false;
-    }
-    if pages::PAGE_COUNT < place {
-        return false;
-    }
-    if pages::mark(img, place) == 0 {
+    if place < 1 || pages::PAGE_COUNT < place || pages::mark(img, place) == 0 {
         return false;
     }
     let n = pages::fill(img, place);
-    if n < least {
-        return false;
-    }
-    n <= 8
+    least <= n && n <= 8
 }
 
 // Past the tree at a place whose leaves lie `level` pages deeper and whose root holds at least `least`.
-fn pass_tree(img: &[u32], level: usize, least: u32, place: u32, s: Passed) -> Passed
+fn pass_tree(img: &[u32], level: usize, least: u32, place: u32, s: Passed) -> Option<Passed>
     ensures { result ≡ run (events_at img.now level least place) s }
 {
-    let p = passes::pass_page(s, page_right(img, least, place));
-    if !p.ok {
-        return p;
-    }
+    let p = s.page(page_right(img, least, place))?;
     if level == 0 {
         return pass_entries(img, place, p);
     }
-    let n = words::wide(pages::fill(img, place));
+    let n = pages::fill(img, place) as usize;
     let mut t = p;
-    let mut i: usize = 0;
-    while i < n {
-        t = pass_tree(img, level - 1, 4, pages::child(img, place, i), t);
-        t = passes::pass_code(t, 2 * words::wide(pages::key_number(img, place, i)));
-        i += 1;
+    for i in 0..n {
+        let u = pass_tree(img, level - 1, 4, pages::child(img, place, i), t)?;
+        t = u.code(2 * pages::key_number(img, place, i) as usize)?;
     }
     pass_tree(img, level - 1, 4, pages::child(img, place, n), t)
 }
@@ -79,12 +63,10 @@ fn used_pages(img: &[u32]) -> usize
     ensures { result ≡ used_to img.now page_count }
 {
     let mut n: usize = 0;
-    let mut p: u32 = pages::PAGE_COUNT;
-    while p > 0 {
+    for p in 1..=pages::PAGE_COUNT {
         if pages::mark(img, p) != 0 {
             n += 1;
         }
-        p -= 1;
     }
     n
 }
@@ -97,18 +79,14 @@ pub fn shaped(img: &[u32]) -> bool
         return false;
     }
     let height = words::wide_word(img, 1);
-    if height < 1 {
-        return false;
-    }
-    if 4 < height {
+    if height < 1 || 4 < height {
         return false;
     }
     let least = if height == 1 { 0 } else { 1 };
     let s = Passed {
-        ok: true,
         link: 0,
         low: 0,
         left: used_pages(img),
     };
-    passes::is_finished(pass_tree(img, height - 1, least, words::word(img, 0), s))
+    pass_tree(img, height - 1, least, words::word(img, 0), s).is_some_and(Passed::is_finished)
 }

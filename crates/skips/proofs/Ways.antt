@@ -1,4 +1,4 @@
--- The first position, the next d of the account, the walk forward: a law for each way out.
+-- The next d of the account, the walk forward: a law for each way out.
 -- Assumes nothing.
 use Prim.Native.Nat.{ℕ, suc, ◌<◌, ◌≤◌}
 use mathlib.Core.Path.{◌≡◌, refl, sym, ◌∙◌, subst}
@@ -7,52 +7,37 @@ use mathlib.Core.List.{List, [], ◌∷◌}
 use lib.Dec.{ltb}
 use native.Mathlib.Omega.{arith}
 use Rattle.words.specs.Lists.{filter, All}
+use Rattle.std.specs.declared.option.Option.{Option}
+use Rattle.std.specs.declared.option.Option.TheVariants.{None, Some}
 use Rattle.words.proofs.Tests.{by_test, eq_yes, eq_no, lt_yes, lt_no}
 use Rattle.words.proofs.Listed.{all_mono}
 use Rattle.words.proofs.Says.{Says, says_iff, true_so, false_so, lt_says}
-use Rattle.regions.specs.Positions.{account, lowest, too_late}
+use Rattle.regions.specs.Positions.{account, too_late}
 use Rattle.regions.specs.Sets.{of, starts_from}
 use Rattle.regions.specs.declared.Region.{Region}
 use Rattle.regions.specs.declared.Choice.{Choice}
 use Rattle.regions.specs.declared.Choice.TheVariants.{Strict, WithSelf}
-use Rattle.regions.specs.declared.Mark.{Mark}
-use Rattle.regions.specs.declared.Mark.TheVariants.{Fresh, Last}
 use Rattle.regions.proofs.Means.{late_near, from_says}
 use Rattle.regions.specs.Sound.{Rising}
 use Rattle.image.specs.Read.{set_of}
 use Rattle.leaves.specs.declared.Entry.{Entry}
 use Rattle.leaves.specs.declared.Cursor.{Cursor}
-use Rattle.leaves.specs.declared.Step.{Step}
-use Rattle.leaves.specs.declared.Step.TheVariants.{Next, End}
 use Rattle.leaves.specs.Cursors.{step_from, start_faced}
 use Rattle.leaves.specs.Faces.{Faces}
 use Rattle.leaves.proofs.Faces.{faces_on, faces_end, faced_is}
 use Rattle.stack.proofs.Stacks.{come_same, First, first_from}
-use Rattle.skips.specs.Joins.{Before, first_position, own_step, first_held, Clear, Moved}
-
--- WHERE THE JOIN BEGINS
-pub position_fresh : (a : ℕ) (m : Mark) → m ≡ Fresh → lowest a ≡ first_position a m
-unfolding first_position
-position_fresh a m e = rw e
-
-pub position_lowest : (a x y : ℕ) (m : Mark) → m ≡ Last x y → y < lowest a → lowest a ≡ first_position a m
-unfolding first_position
-position_lowest a x y m e l = rw e (omega arith)
-
-pub position_marked : (a x y : ℕ) (m : Mark) → m ≡ Last x y → lowest a ≤ y → y ≡ first_position a m
-unfolding first_position
-position_marked a x y m e l = rw e (omega arith)
+use Rattle.skips.specs.Joins.{Before, own_step, first_held, Clear, Moved}
 
 -- A STEP OF THE ACCOUNT
-pub own_end : (a : ℕ) (s : Step) → s ≡ End → End ≡ own_step a s
+pub own_end : (a : ℕ) (s : Option (Entry × Cursor)) → s ≡ None → None ≡ own_step a s
 unfolding own_step
 own_end a s e = rw e
 
-pub own_other : (a b : ℕ) (s : Step) (e : Entry) (on : Cursor) → s ≡ Next e on → b ≡ account e.region.start → (b ≡ a → ⊥) → End ≡ own_step a s
+pub own_other : (a b : ℕ) (s : Option (Entry × Cursor)) (e : Entry) (on : Cursor) → s ≡ Some (e, on) → b ≡ account e.region.start → (b ≡ a → ⊥) → None ≡ own_step a s
 unfolding own_step of
 own_other a b s e on p q n = rw (p, eq_no (account e.region.start) a (λ z. n (q ∙ z)))
 
-pub own_one : (a b : ℕ) (s : Step) (e : Entry) (on : Cursor) → s ≡ Next e on → b ≡ account e.region.start → b ≡ a → Next e on ≡ own_step a s
+pub own_one : (a b : ℕ) (s : Option (Entry × Cursor)) (e : Entry) (on : Cursor) → s ≡ Some (e, on) → b ≡ account e.region.start → b ≡ a → Some (e, on) ≡ own_step a s
 unfolding own_step of
 own_one a b s e on p q n = rw (p, eq_yes (account e.region.start) a (sym q ∙ n))
 
@@ -77,9 +62,9 @@ pub clear_next : (w : List ℕ) (p q : ℕ) (c : Cursor) → p < 4294967296 → 
 unfolding start_faced
 clear_next w p q c l up f g = go (step_from w c) refl g
   where
-    go : (s : Step) → step_from w c ≡ s → q ≡ start_faced s → Clear (set_of w).regions p q
-    go End s k = clear_from (set_of w).regions p q (omega arith) (rw (faces_end w c _ f s) tt)
-    go (Next e on) s k =
+    go : (s : Option (Entry × Cursor)) → step_from w c ≡ s → q ≡ start_faced s → Clear (set_of w).regions p q
+    go None s k = clear_from (set_of w).regions p q (omega arith) (rw (faces_end w c _ f s) tt)
+    go (Some (e, on)) s k =
         let o = faces_on w c _ e on f s in
         let m = first_from (set_of w).regions p e.region o.rest up o.is in
         clear_from (set_of w).regions p q (omega (arith, m.low)) (rw o.is (subst (λ n. All (λ r. n ≤ r.start) (e.region ∷ o.rest)) (sym k) m.least))
@@ -97,7 +82,7 @@ held_far Strict p q l = omega arith
 held_far WithSelf p q l = omega arith
 
 -- as it is asked of the start that a cursor faces
-module _ (ch : Choice) (q s : ℕ) (b : Bool) (st : Step) (e : s ≡ start_faced st) (t : b ≡ ltb q (too_late ch s)) where
+module _ (ch : Choice) (q s : ℕ) (b : Bool) (st : Option (Entry × Cursor)) (e : s ≡ start_faced st) (t : b ≡ ltb q (too_late ch s)) where
   pub not_held : b ≡ false → start_faced st < first_held ch q
   not_held h = let n : (first_held ch q ≤ s → ⊥) = false_so (held_says ch q s) (sym t ∙ h) in omega arith
 
@@ -109,10 +94,10 @@ module _ {w : List ℕ} {y : ℕ} {c : Cursor} (b : Before w y c) (up : Rising (
   pub passed : All (λ (r : Region). y ≤ r.start) (filter (starts_from b.at) (set_of w).regions) → Faces w c (filter (starts_from y) (set_of w).regions)
   passed h = subst (λ (l : List Region). Faces w c l) (come_same b.at y 0 (set_of w).regions up b.far h) b.faces
 
-  pub forward_end : step_from w c ≡ End → Faces w c (filter (starts_from y) (set_of w).regions)
+  pub forward_end : step_from w c ≡ None → Faces w c (filter (starts_from y) (set_of w).regions)
   forward_end s = passed (rw (faces_end w c _ b.faces s) tt)
 
-  module _ (e : Entry) (on : Cursor) (s : step_from w c ≡ Next e on) where
+  module _ (e : Entry) (on : Cursor) (s : step_from w c ≡ Some (e, on)) where
     pub first : First (set_of w).regions b.at e.region (faces_on w c _ e on b.faces s).rest
     first = first_from (set_of w).regions b.at e.region _ up (faces_on w c _ e on b.faces s).is
 
@@ -130,9 +115,9 @@ module _ {w : List ℕ} {y : ℕ} {c : Cursor} (b : Before w y c) (up : Rising (
   pub forward_there : y ≤ start_faced (step_from w c) → Faces w c (filter (starts_from y) (set_of w).regions)
   forward_there l = go (step_from w c) refl
     where
-      go : (s : Step) → step_from w c ≡ s → Faces w c (filter (starts_from y) (set_of w).regions)
-      go End s = forward_end s
-      go (Next e on) s = forward_stop e on s (omega (arith, faced_is (step_from w c) e on s))
+      go : (s : Option (Entry × Cursor)) → step_from w c ≡ s → Faces w c (filter (starts_from y) (set_of w).regions)
+      go None s = forward_end s
+      go (Some (e, on)) s = forward_stop e on s (omega (arith, faced_is (step_from w c) e on s))
 
 -- by a descent
 pub sought : (ch : Choice) (w : List ℕ) (x : ℕ) (c : Cursor) → ch ≡ Strict → Faces w c (filter (starts_from (suc x)) (set_of w).regions) → Faces w c (filter (starts_from (first_held ch x)) (set_of w).regions)

@@ -1,6 +1,6 @@
 -- Where the join begins, and how it comes to the next d.
 -- Assumes nothing.
-use Rattle.std.specs.Prelude.{ℕ, ◌≤◌, suc, max, List, ◌≡◌, Bool, true, false, cond}
+use Rattle.std.specs.Prelude.{ℕ, ◌≤◌, suc, max, List, ◌≡◌, Bool, true, false, cond, Option, Some, None}
 use Rattle.words.specs.Lists.{filter, All}
 use Rattle.regions.specs.Sets.{starts_from, of}
 use Rattle.regions.specs.declared.Region.{Region}
@@ -10,10 +10,9 @@ use Rattle.regions.specs.declared.Mark.{Mark}
 use Rattle.regions.specs.declared.Mark.TheVariants.{Fresh, Last}
 use Rattle.regions.specs.Positions.{lowest, too_late}
 use Rattle.image.specs.Read.{set_of}
+use Rattle.leaves.specs.declared.Entry.{Entry}
 use Rattle.leaves.specs.declared.Cursor.{Cursor}
 use Rattle.leaves.specs.Faces.{Faces}
-use Rattle.leaves.specs.declared.Step.{Step}
-use Rattle.leaves.specs.declared.Step.TheVariants.{Next, End}
 
 -- a cursor at a place that is not behind y
 pub record Before (w : List ℕ) (y : ℕ) (c : Cursor) : Type 0 where
@@ -26,10 +25,10 @@ unfoldable pub first_position : ℕ → Mark → ℕ
 first_position a Fresh = lowest a
 first_position a (Last x y) = max (lowest a) y
 
--- a step to a region of the account; to that of another it is the end
-unfoldable pub own_step : ℕ → Step → Step
-own_step a End = End
-own_step a (Next e c) = cond (of a e.region) (Next e c) End
+-- a step to a region of the account; to that of another there is none
+unfoldable pub own_step : ℕ → Option (Entry × Cursor) → Option (Entry × Cursor)
+own_step a None = None
+own_step a (Some s) = cond (of a s.0.region) (Some s) None
 
 -- THE NEXT d. No region starts at p or behind it and before q
 pub record Clear (rs : List Region) (p q : ℕ) : Type 0 where

@@ -13,38 +13,33 @@ ghost use Rattle.leaves.specs.Faces.{Faces};
 ghost use Rattle.skips.specs.Joins.{Before, first_position, own_step, first_held, Moved};
 
 use follow::Stack;
-use leaves::{Cursor, Step};
+use leaves::{Cursor, Entry};
 use regions::{Choice, Mark};
 
 // Where the pairs of an account past a mark can begin: at its first position, or at the marked d where that comes later.
+#[tactic(auto, unfolding(crate::specs::Joins::first_position))]
 pub fn first_position(account: u32, mark: Mark) -> u32
     requires { account ≤ last_account }
     ensures { result ≡ first_position account mark }
 {
     let low = account * regions::ACCOUNT_POSITIONS;
-    let Mark::Last(_, d) = mark else {
-        return low;
-    };
-    if d < low {
-        return low;
+    match mark {
+        Mark::Fresh => low,
+        Mark::Last(_, d) => low.max(d),
     }
-    d
 }
 
-// The next d of the account, or the end: starts ascend, so that behind the first d of another account there is none.
-pub fn own_step(inner: &[u32], cursor: Cursor, account: u32) -> Step
+// The next d of the account, with the cursor moved on. Starts ascend, so that behind the first d of another account there is none.
+pub fn own_step(inner: &[u32], cursor: Cursor, account: u32) -> Option<(Entry, Cursor)>
     requires { cursor.at < 9 }
     ensures { result ≡ own_step account (step_from inner.now cursor) }
 {
-    let step = cursor.step(inner);
-    let Step::Next(entry, on) = step else {
-        return Step::End;
-    };
-    let d = entry.region;
-    if regions::account_of(d.start) != account {
-        return Step::End;
+    let (entry, on) = cursor.step(inner)?;
+    if regions::account_of(entry.region.start) == account {
+        Some((entry, on))
+    } else {
+        None
     }
-    Step::Next(entry, on)
 }
 
 // The cursor at the first entry that a region may hold which starts at x, by a descent: behind x, or with self at it.
@@ -65,10 +60,10 @@ fn forward(img: &[u32], on: Cursor, choice: Choice, x: u32) -> Cursor
     ensures { Faces img.now result (filter (starts_from (first_held choice x)) (set_of img.now).regions) }
 {
     let mut cur = on;
+    // No index: it follows the leaves' links, as far as the starts come too soon.
     while !regions::in_time(choice, cur.start(img), x) {
-        let step = cur.step(img);
-        let Step::Next(_, next) = step else {
-            return cur;
+        let Some((_, next)) = cur.step(img) else {
+            break;
         };
         if follow::is_far(img, cur.leaf, x) {
             return seek_held(img, choice, x);
@@ -91,6 +86,5 @@ pub fn next_d(outer: &[u32], inner: &[u32], choice: Choice, p: u32, s: Stack, on
     if 0 < s.n {
         return on;
     }
-    let cur = s.cur;
-    forward(inner, on, choice, cur.start(outer))
+    forward(inner, on, choice, s.cur.start(outer))
 }

@@ -14,7 +14,7 @@ use Rattle.raising.specs.declared.Risen.{Risen}
 use Rattle.split.specs.Stored.{Stored}
 use Rattle.split.specs.Ready.{InnerReady}
 use Rattle.split.proofs.Assemble.{assemble}
-use Rattle.split.proofs.Seen.{i_fits, free_page_lem}
+use Rattle.split.proofs.Seen.{i_fits, first_is_free}
 use Rattle.split.proofs.Inners.{inner_few, inner_more, raise_ready, inner_enter, inner_made}
 use Rattle.split.proofs.LeafCalls.{child_place}
 
@@ -53,7 +53,7 @@ module _ {w : List ℕ} {h q i c : ℕ} (s : InnerReady w h q i c) (page : List 
         → IsInner rws 1 (fill_of t.page - suc c) (next_of t.page) (drop (suc c) (keys_of t.page)) (drop (suc c) (children_of t.page))
         → Stored w₂ w₅ p lws r rws q pws → Split w w₅ (suc h) q i c s.child_at
     inner_split {w₂} {w₅} {lws} {rws} {pws} {r} free e l m u =
-        let o = free_page_lem s.child_at r free s.free_page_lem in
+        let o = first_is_free s.child_at r free s.free_page in
         assemble
         (inner_made s raised_here
         (subst (λ (z : List ℕ). (h : ℕ) (g : EnterReady w₁ z i t.key h) → Entered w₁ w₂ z i t.key r h g pws) page_is e (suc h) (inner_enter s raised_here)) l m)

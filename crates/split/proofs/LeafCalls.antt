@@ -20,7 +20,7 @@ use Rattle.raising.specs.Moves.{EnterReady, Entered}
 use Rattle.split.specs.Stored.{Stored}
 use Rattle.split.specs.Ready.{LeafReady}
 use Rattle.split.proofs.Assemble.{assemble}
-use Rattle.split.proofs.Seen.{q_range, p_range, p_not_q, i_fits, child_is, FreePage, free_page_lem}
+use Rattle.split.proofs.Seen.{q_range, p_range, p_not_q, i_fits, child_is, FreePage, first_is_free}
 use Rattle.split.proofs.Leafs.{Separates, LeafCut, starts_rise, leaf_cut, leaf_more, leaf_few, leaf_pairs, gather_ready, leaf_enter, leaf_made}
 
 -- what the three stores ask
@@ -81,7 +81,7 @@ module _ {w : List ℕ} {q i c : ℕ} (s : LeafReady w q i c) (page : List ℕ) 
           → IsLeaf lws (mark_of ws) c r (take c (entries_of ws)) (take c (spares_of ws)) → IsLeaf rws 1 (fill_of ws - c) (next_of ws) (drop c (entries_of ws)) (drop c (spares_of ws))
           → Stored w₂ w₅ p lws r rws q pws → Split w w₅ 0 q i c s.child_at
       leaf_split {w₂} {w₅} {ws} {lws} {rws} {pws} {r} k-is free f e l m t =
-          let o = free_page_lem s.child_at r free s.free_page_lem in
+          let o = first_is_free s.child_at r free s.free_page in
           assemble
           (leaf_made s cut_here gathered_here (subst (λ z. Flagged z (c + 1) k ws) leaf_at_lem f)
           (subst (λ (z : List ℕ). (h : ℕ) (g : EnterReady w₁ z i key h) → Entered w₁ w₂ z i key r h g pws) page_is e 0 (leaf_enter s cut_here gathered_here)) l m

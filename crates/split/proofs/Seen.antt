@@ -129,8 +129,8 @@ module _ {w : List ℕ} {h q i : ℕ} (s : ChildAt w h q i) where
     pub not_p : place_of h s.child ≢ r
     pub not_q : r ≢ q
 
-  pub free_page_lem : (r : ℕ) → FirstFree (page_used w) 160 r → length (page_places (suc h) (page_here s) ++ s.o.pages) < 160 → FreePage r
-  free_page_lem r f l =
+  pub first_is_free : (r : ℕ) → FirstFree (page_used w) 160 r → length (page_places (suc h) (page_here s) ++ s.o.pages) < 160 → FreePage r
+  first_is_free r f l =
       let fair : Fair (page_used w) 160 (page_places (suc h) (page_here s) ++ s.o.pages) =
       record { range = all_counted (λ x. (1 ≤ x) × (x ≤ 160)) (page_places (suc h) (page_here s) ++ s.o.pages) st.pages.range; counts = st.pages.once } in
       let z = first_free fair r l f in

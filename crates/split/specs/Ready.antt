@@ -18,7 +18,7 @@ pub record LeafReady (w : List ℕ) (q i c : ℕ) : Type 0 where
   pub room : length (page_here child_at).kids ≤ 8
   pub low : 1 ≤ c
   pub high : c < length child_at.child.entries
-  pub free_page_lem : length (page_places 1 (page_here child_at) ++ child_at.o.pages) < page_count
+  pub free_page : length (page_places 1 (page_here child_at) ++ child_at.o.pages) < page_count
   pub free_records : length (record_places 1 (page_here child_at) ++ child_at.o.records) + unlisted child_at.child.entries ≤ record_count
 
 -- an inner page, cut at its key c: either part may be left with no key and one child
@@ -27,4 +27,4 @@ pub record InnerReady (w : List ℕ) (h q i c : ℕ) : Type 0 where
   pub nested : Pairs Over child_at.rs
   pub room : length (page_here child_at).kids ≤ 8
   pub high : c < length child_at.child.kids
-  pub free_page_lem : length (page_places (suc (suc h)) (page_here child_at) ++ child_at.o.pages) < page_count
+  pub free_page : length (page_places (suc (suc h)) (page_here child_at) ++ child_at.o.pages) < page_count

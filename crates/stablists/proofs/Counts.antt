@@ -5,6 +5,7 @@ use Prim.Native.Nat.{ℕ, zero, suc, ◌+◌, ◌-◌, ◌≤◌}
 use mathlib.Core.Path.{◌≡◌, refl, sym, ap, ◌∙◌}
 use mathlib.Core.Bool.{Bool, true, false, ◌&&◌, cond}
 use mathlib.Core.List.{List, [], ◌∷◌}
+use Rattle.std.proofs.Common.{Option, None, Some, option_and_then}
 use lib.Dec.{leb, eqb}
 use lib.ListN.{length}
 use native.Mathlib.Omega.{arith}
@@ -17,21 +18,20 @@ use Rattle.pages.specs.Layout.{page_of, fill_of, child_in, record_count, record_
 use Rattle.image.specs.Read.{entries_from, key_at, record_region}
 use Rattle.trail.specs.declared.Trail.{Trail}
 use Rattle.trail.specs.declared.Home.{Home}
-use Rattle.trail.specs.Pass.{bad, going, is_home, step, meet, follow, begun, ended}
+use Rattle.trail.specs.Pass.{going, is_home, step, meet, follow, ended}
 use Rattle.flags.specs.Pass.{flag_here}
 use Rattle.stablists.specs.Pass.{key_in, head_in, home_in, around, key_pass, pass_keys, pass_at}
 
 -- where a part of the pass ends that begins with no list open and n records left: its test b, and the x records that it meets
-abbrev pub outcome : Bool → ℕ → ℕ → Trail
-outcome b x n = cond (b && leb x n) (going 0 (n - x)) bad
+abbrev pub outcome : Bool → ℕ → ℕ → Option Trail
+outcome b x n = cond (b && leb x n) (Some (going 0 (n - x))) None
 
-pub record Counts (f : Trail → Trail) (b : Bool) (x : ℕ) : Type 0 where
-  pub stays : f bad ≡ bad
+pub record Counts (f : Trail → Option Trail) (b : Bool) (x : ℕ) : Type 0 where
   pub goes : (n : ℕ) → f (going 0 n) ≡ outcome b x n
 
-outcome_two : (g : Trail → Trail) (a b : Bool) (x y n : ℕ) → g bad ≡ bad → ((m : ℕ) → g (going 0 m) ≡ outcome b y m) → g (outcome a x n) ≡ outcome (a && b) (x + y) n
-outcome_two g false b x y n s f = s
-outcome_two g true b x y n s f =
+outcome_two : (g : Trail → Option Trail) (a b : Bool) (x y n : ℕ) → ((m : ℕ) → g (going 0 m) ≡ outcome b y m) → option_and_then g (outcome a x n) ≡ outcome (a && b) (x + y) n
+outcome_two g false b x y n f = refl
+outcome_two g true b x y n f =
     by_test (leb x n)
     (λ h.
     let l = le_of x n h in
@@ -40,7 +40,7 @@ outcome_two g true b x y n s f =
     rw h (f (n - x) ∙ rw (e, m)))
     (λ h.
     let l = nle_of x n h in
-    rw (h, le_no (x + y) n (omega arith), and_false b) s)
+    rw (h, le_no (x + y) n (omega arith), and_false b))
   where
     same_le : x ≤ n → leb y (n - x) ≡ leb (x + y) n
     same_le l =
@@ -48,9 +48,8 @@ outcome_two g true b x y n s f =
         (λ h. let m = le_of y (n - x) h in h ∙ sym (le_yes (x + y) n (omega arith)))
         (λ h. let m = nle_of y (n - x) h in h ∙ sym (le_no (x + y) n (omega arith)))
 
-pub counts_then : {f g : Trail → Trail} {a b : Bool} {x y : ℕ} → Counts f a x → Counts g b y → Counts (λ t. g (f t)) (a && b) (x + y)
-counts_then {f} {g} {a} {b} {x} {y} p q =
-    record { stays = ap g p.stays ∙ q.stays; goes = λ n. ap g (p.goes n) ∙ outcome_two g a b x y n q.stays q.goes }
+pub counts_then : {f g : Trail → Option Trail} {a b : Bool} {x y : ℕ} → Counts f a x → Counts g b y → Counts (λ t. option_and_then g (f t)) (a && b) (x + y)
+counts_then {f} {g} {a} {b} {x} {y} p q = record { goes = λ n. ap (option_and_then g) (p.goes n) ∙ outcome_two g a b x y n q.goes }
 
 -- A LIST, followed along the regions that it is to hold
 unfoldable pub followed : List ℕ → ℕ → List Region → Bool
@@ -58,48 +57,39 @@ followed w q [] = eqb q 0
 followed w q (r ∷ rs) = within 1 record_count q && (same_region (record_region w q) r && followed w (record_next (record_of w q)) rs)
 
 module _ (w : List ℕ) where
-  step_bad : (r : Region) → step w r bad ≡ bad
-  unfolding step
-  step_bad r = refl
-
-  follow_bad : (h : Home) (rs : List Region) → follow w h rs bad ≡ bad
-  unfolding follow meet
-  follow_bad h [] = refl
-  follow_bad h (r ∷ rs) = ap (follow w h rs) (either_way (is_home h r)) ∙ follow_bad h rs
-    where
-      either_way : (b : Bool) → cond b (step w r bad) bad ≡ bad
-      either_way true = step_bad r
-      either_way false = refl
-
-  ended_bad : ended bad ≡ bad
-  unfolding ended
-  ended_bad = refl
-
-  ended_going : (q n : ℕ) → ended (going q n) ≡ cond (eqb q 0) (going 0 n) bad
+  ended_going : (q n : ℕ) → ended (going q n) ≡ cond (eqb q 0) (Some (going 0 n)) None
   unfolding ended
   ended_going q n =
       by_test (eqb q 0)
-      (λ h. rw h (ap (λ m. going m n) (eq_of q 0 h)))
+      (λ h. rw h (ap (λ m. Some (going m n)) (eq_of q 0 h)))
       (λ h. rw h)
 
-  follow_on : (h : Home) (r : Region) (rs : List Region) (t : Trail) → is_home h r ≡ true → follow w h (r ∷ rs) t ≡ follow w h rs (step w r t)
-  unfolding follow meet
-  follow_on h r rs t e = ap (λ b. follow w h rs (cond b (step w r t) t)) e
+  -- the regions followed to the list's end
+  abbrev to_end : Home → List Region → Trail → Option Trail
+  to_end h rs t = option_and_then ended (follow w h rs t)
 
-  follow_off : (h : Home) (r : Region) (rs : List Region) (t : Trail) → is_home h r ≡ false → follow w h (r ∷ rs) t ≡ follow w h rs t
+  then_end : (h : Home) (rs : List Region) (o : Option Trail) → option_and_then ended (option_and_then (follow w h rs) o) ≡ option_and_then (to_end h rs) o
+  then_end h rs None = refl
+  then_end h rs (Some t) = refl
+
+  follow_on : (h : Home) (r : Region) (rs : List Region) (t : Trail) → is_home h r ≡ true → to_end h (r ∷ rs) t ≡ option_and_then (to_end h rs) (step w r t)
   unfolding follow meet
-  follow_off h r rs t e = ap (λ b. follow w h rs (cond b (step w r t) t)) e
+  follow_on h r rs t e = ap (λ b. option_and_then ended (option_and_then (follow w h rs) (cond b (step w r t) (Some t)))) e ∙ then_end h rs (step w r t)
+
+  follow_off : (h : Home) (r : Region) (rs : List Region) (t : Trail) → is_home h r ≡ false → to_end h (r ∷ rs) t ≡ to_end h rs t
+  unfolding follow meet
+  follow_off h r rs t e = ap (λ b. option_and_then ended (option_and_then (follow w h rs) (cond b (step w r t) (Some t)))) e
 
   -- one record more: the three tests of a step, and of what follows
-  three_tests : (f : Trail → Trail) (a s b : Bool) (q n x : ℕ) → f bad ≡ bad → ((m : ℕ) → f (going q m) ≡ outcome b x m)
-      → f (cond (a && (leb 1 n && s)) (going q (n - 1)) bad) ≡ outcome (a && (s && b)) (suc x) n
-  three_tests f false s b q n x z e = z
-  three_tests f true false b q n x z e = rw (and_false (leb 1 n)) z
-  three_tests f true true b q zero x z e = rw (le_no (suc x) 0 (omega arith), and_false b) z
-  three_tests f true true b q (suc n) x z e =
+  three_tests : (f : Trail → Option Trail) (a s b : Bool) (q n x : ℕ) → ((m : ℕ) → f (going q m) ≡ outcome b x m)
+      → option_and_then f (cond (a && (leb 1 n && s)) (Some (going q (n - 1))) None) ≡ outcome (a && (s && b)) (suc x) n
+  three_tests f false s b q n x e = refl
+  three_tests f true false b q n x e = rw (and_false (leb 1 n))
+  three_tests f true true b q zero x e = rw (le_no (suc x) 0 (omega arith), and_false b)
+  three_tests f true true b q (suc n) x e =
       let u : suc n - 1 ≡ n = omega arith in
       let v : suc n - suc x ≡ n - x = omega arith in
-      rw (le_yes 1 (suc n) (omega arith), u) (e n ∙ rw v (ap (λ c. cond (b && c) (going 0 (n - x)) bad) (same_le n)))
+      rw (le_yes 1 (suc n) (omega arith), u) (e n ∙ rw v (ap (λ c. cond (b && c) (Some (going 0 (n - x))) None) (same_le n)))
     where
       same_le : (m : ℕ) → leb x m ≡ leb (suc x) (suc m)
       same_le m =
@@ -107,28 +97,27 @@ module _ (w : List ℕ) where
           (λ h. let k = le_of x m h in h ∙ sym (le_yes (suc x) (suc m) (omega arith)))
           (λ h. let k = nle_of x m h in h ∙ sym (le_no (suc x) (suc m) (omega arith)))
 
-  step_decides : (h : Home) (r : Region) (rs : List Region) (q n : ℕ) (b : Bool) (x : ℕ) → ((m : ℕ) → ended (follow w h rs (going (record_next (record_of w q)) m)) ≡ outcome b x m)
-      → ended (follow w h rs (step w r (going q n))) ≡ outcome (within 1 record_count q && (same_region (record_region w q) r && b)) (suc x) n
+  step_decides : (h : Home) (r : Region) (rs : List Region) (q n : ℕ) (b : Bool) (x : ℕ) → ((m : ℕ) → to_end h rs (going (record_next (record_of w q)) m) ≡ outcome b x m)
+      → option_and_then (to_end h rs) (step w r (going q n)) ≡ outcome (within 1 record_count q && (same_region (record_region w q) r && b)) (suc x) n
   unfolding step
-  step_decides h r rs q n b x e =
-      three_tests (λ t. ended (follow w h rs t)) (within 1 record_count q) (same_region (record_region w q) r) b (record_next (record_of w q)) n x (ap ended (follow_bad h rs) ∙ ended_bad) e
+  step_decides h r rs q n b x e = three_tests (to_end h rs) (within 1 record_count q) (same_region (record_region w q) r) b (record_next (record_of w q)) n x e
 
-  none_decides : (h : Home) (q n : ℕ) → ended (follow w h [] (going q n)) ≡ outcome (eqb q 0) 0 n
+  none_decides : (h : Home) (q n : ℕ) → to_end h [] (going q n) ≡ outcome (eqb q 0) 0 n
   unfolding follow
   none_decides h q n =
       let z : n - 0 ≡ n = omega arith in
       ended_going q n ∙ by_test (eqb q 0) (λ e. rw (e, le_yes 0 n (omega arith), z)) (λ e. rw e)
 
-  pub follow_decides : (h : Home) (rs : List Region) (q n : ℕ) → ended (follow w h rs (going q n)) ≡ outcome (followed w q (filter (is_home h) rs)) (length (filter (is_home h) rs)) n
+  pub follow_decides : (h : Home) (rs : List Region) (q n : ℕ) → to_end h rs (going q n) ≡ outcome (followed w q (filter (is_home h) rs)) (length (filter (is_home h) rs)) n
   unfolding followed filter
   follow_decides h [] q n = none_decides h q n
   follow_decides h (r ∷ rs) q n =
       by_test (is_home h r)
       (λ e.
-      ap ended (follow_on h r rs (going q n) e)
+      follow_on h r rs (going q n) e
       ∙ step_decides h r rs q n _ _ (λ m. follow_decides h rs (record_next (record_of w q)) m)
       ∙ sym (ap (λ (l : List Region). outcome (followed w q l) (length l) n) (filter_yes (is_home h) r rs e)))
-      (λ e. ap ended (follow_off h r rs (going q n) e) ∙ follow_decides h rs q n ∙ sym (ap (λ (l : List Region). outcome (followed w q l) (length l) n) (filter_no (is_home h) r rs e)))
+      (λ e. follow_off h r rs (going q n) e ∙ follow_decides h rs q n ∙ sym (ap (λ (l : List Region). outcome (followed w q l) (length l) n) (filter_no (is_home h) r rs e)))
 
   -- A KEY: the regions of its list
   abbrev pub home_list : ℕ → List ℕ → ℕ → ℕ → ℕ → List Region
@@ -137,33 +126,17 @@ module _ (w : List ℕ) where
   unfoldable pub key_test : ℕ → List ℕ → ℕ → ℕ → ℕ → Bool
   key_test d ws i lo hi = pair_right (key_at w ws i) (key_at w ws i).list && followed w (head_in ws i) (home_list d ws i lo hi)
 
-  begun_bad : (q : ℕ) → begun q bad ≡ bad
-  unfolding begun
-  begun_bad q = refl
-
-  begun_good : (q n : ℕ) → begun q (going 0 n) ≡ going q n
-  unfolding begun
-  begun_good q n = refl
-
-  with_pair : (a b : Bool) (x n : ℕ) (t : Trail) → t ≡ outcome b x n → cond a t bad ≡ outcome (a && b) x n
+  with_pair : (a b : Bool) (x n : ℕ) (t : Option Trail) → t ≡ outcome b x n → cond a t None ≡ outcome (a && b) x n
   with_pair true b x n t e = e
   with_pair false b x n t e = refl
-
-  bad_pair : (a : Bool) (t : Trail) → t ≡ bad → cond a t bad ≡ bad
-  bad_pair true t e = e
-  bad_pair false t e = refl
 
   pub key_counts : (d : ℕ) (ws : List ℕ) (i lo hi : ℕ) → Counts (key_pass w d ws i lo hi) (key_test d ws i lo hi) (length (home_list d ws i lo hi))
   unfolding key_pass key_test
   key_counts d ws i lo hi =
-      let H : Home = home_in ws i lo hi in
-      let rs : List Region = around w d ws i in
-      let a : Bool = pair_right (key_at w ws i) (key_at w ws i).list in
       record {
-        stays = bad_pair a _ (ap (λ t. ended (follow w H rs t)) (begun_bad (head_in ws i)) ∙ ap ended (follow_bad H rs) ∙ ended_bad);
         goes = λ n.
-            with_pair a (followed w (head_in ws i) (home_list d ws i lo hi)) (length (home_list d ws i lo hi)) n _
-            (ap (λ t. ended (follow w H rs t)) (begun_good (head_in ws i) n) ∙ follow_decides H rs (head_in ws i) n);
+            with_pair (pair_right (key_at w ws i) (key_at w ws i).list) (followed w (head_in ws i) (home_list d ws i lo hi)) (length (home_list d ws i lo hi)) n _
+            (follow_decides (home_in ws i lo hi) (around w d ws i) (head_in ws i) n);
       }
 
 -- THE TREE: its tests, and its records
@@ -192,9 +165,9 @@ keys_count w d ws ih i zero lo hi = ih (child_in ws i) lo hi
 keys_count w d ws ih i (suc m) lo hi =
     counts_then (counts_then (key_counts w d ws i lo hi) (ih (child_in ws i) lo (key_in ws i))) (keys_count w d ws ih (suc i) m (suc (key_in ws i)) hi)
 
-flags_count : (b : Bool) → Counts (λ t. cond b t bad) b 0
-flags_count true = record { stays = refl; goes = λ n. rw (le_yes 0 n (omega arith)) (ap (λ m. going 0 m) (omega arith)) }
-flags_count false = record { stays = refl; goes = λ n. refl }
+flags_count : (b : Bool) → Counts (λ t. cond b (Some t) None) b 0
+flags_count true = record { goes = λ n. rw (le_yes 0 n (omega arith)) (ap (λ m. Some (going 0 m)) (omega arith)) }
+flags_count false = record { goes = λ n. refl }
 
 pub pass_counts : (w : List ℕ) (d p lo hi : ℕ) → Counts (pass_at w d p lo hi) (test_at w d p lo hi) (size_at w d p lo hi)
 unfolding pass_at test_at size_at

@@ -5,6 +5,7 @@ use Prim.Native.Nat.{ℕ, ◌-◌, ◌<◌, ◌≤◌}
 use mathlib.Core.Path.{◌≡◌, refl, sym, ap, ◌∙◌}
 use mathlib.Core.Bool.{Bool, true, false, ◌&&◌}
 use mathlib.Core.List.{List}
+use Rattle.std.proofs.Common.{Option, None, Some}
 use lib.Dec.{T, leb, eqb}
 use lib.ListN.{length, get_or}
 use native.Mathlib.Omega.{arith}
@@ -39,8 +40,13 @@ use Rattle.stablists.proofs.Tested.{Tested, KeyRight, Right, root_filled, tree_t
 use Rattle.stablists.proofs.Claimed.{claim_two, claim_mono, Placed, claim_places, ListRead, lists_read}
 use Rattle.stablists.proofs.Once.{Holds, at_most, used_few, placed_of, of_placed}
 
+-- the pass came through, and met every record
+abbrev pub none_left : Option Trail → Bool
+none_left None = false
+none_left (Some t) = eqb t.left 0
+
 -- what comes of a test b and x records where n are used
-all_met : (b : Bool) (x n : ℕ) → ((outcome b x n).ok && eqb (outcome b x n).left 0) ≡ (b && eqb x n)
+all_met : (b : Bool) (x n : ℕ) → none_left (outcome b x n) ≡ (b && eqb x n)
 all_met false x n = refl
 all_met true x n =
     by_test (leb x n)
@@ -174,19 +180,11 @@ module _ (w : List ℕ) (small : (i : ℕ) → get_or w i 0 < 4294967296) (s : T
       let l = rules_tests w top h (root_of w) before (and_left (rule3 h t) _ u, and_left (rule4 h t) _ u1, and_left (rule5 h t) _ u2, and_right (rule5 h t) _ u2) in
       and_both b _ l.0 ((eq_says _ _).so_yes l.1))
 
-  decides : (d p n : ℕ) (e : Trail) → d ≡ depth_of w → p ≡ root_of w → n ≡ used_to w record_count → e ≡ pass_at w d p 0 top (going 0 n) → (e.ok && eqb e.left 0) ≡ lists_right w
+  pub decides : (d p n : ℕ) (e : Option Trail) → d ≡ depth_of w → p ≡ root_of w → n ≡ used_to w record_count → e ≡ pass_at w d p 0 top (going 0 n) → none_left e ≡ lists_right w
   decides d p n e ed ep en q =
       let c = pass_counts w (depth_of w) (root_of w) 0 top in
       let f : e ≡ outcome (test_at w (depth_of w) (root_of w) 0 top) (size_at w (depth_of w) (root_of w) 0 top) (used_to w record_count) = q ∙ rw (ed, ep, en) (c.goes (used_to w record_count)) in
-      ap (λ (x : Trail). x.ok && eqb x.left 0) f ∙ all_met (test_at w (depth_of w) (root_of w) 0 top) (size_at w (depth_of w) (root_of w) 0 top) (used_to w record_count) ∙ decided
-
-  -- as the code asks: whether the pass came through, then how many records are left
-  module _ (d p n : ℕ) (e : Trail) (ed : d ≡ depth_of w) (ep : p ≡ root_of w) (en : n ≡ used_to w record_count) (q : e ≡ pass_at w d p 0 top (going 0 n)) where
-    pub failed_right : e.ok ≡ false → false ≡ lists_right w
-    failed_right h = rw h at (decides d p n e ed ep en q)
-
-    pub left_right : e.ok ≡ true → eqb e.left 0 ≡ lists_right w
-    left_right h = rw h at (decides d p n e ed ep en q)
+      ap none_left f ∙ all_met (test_at w (depth_of w) (root_of w) 0 top) (size_at w (depth_of w) (root_of w) 0 top) (used_to w record_count) ∙ decided
 
 -- what the code asks of a shapely image
 pub height_some : (w : List ℕ) → T (shapely w) → 1 ≤ height_of w

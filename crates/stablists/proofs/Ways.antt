@@ -2,7 +2,7 @@
 -- Assumes nothing.
 use Prim.Native.Nat.{ℕ, suc}
 use mathlib.Core.Path.{◌≡◌, sym, ap, ◌∙◌}
-use mathlib.Core.Bool.{Bool, false, ◌&&◌}
+use mathlib.Core.Bool.{Bool, ◌&&◌}
 use mathlib.Core.List.{List, [], ◌∷◌, map}
 use lib.Dec.{eqb}
 use Rattle.words.proofs.Tests.{eq_yes, eq_no}
@@ -15,7 +15,7 @@ use Rattle.image.specs.Read.{chain, record_region, key_at}
 use Rattle.stablists.specs.Pass.{head_in}
 
 -- the stored pair of a key
-pub pair_not : (k : KeyWords) (s e : ℕ) → (k.start ≡ s → ⊥) → false ≡ (eqb k.start s && eqb k.end e)
+pub pair_not : (k : KeyWords) (s e : ℕ) → (k.start ≡ s → ⊥) → eqb k.start s ≡ (eqb k.start s && eqb k.end e)
 pair_not k s e a = rw (eq_no k.start s a)
 
 pub pair_is_lem : (k : KeyWords) (s e : ℕ) → k.start ≡ s → eqb k.end e ≡ (eqb k.start s && eqb k.end e)

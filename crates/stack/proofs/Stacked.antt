@@ -60,8 +60,8 @@ read_holds ws n i ch p a e l h = rw e (stacked_at (λ (x : Region). holds ch p x
 
 -- POPPING: m are left, the top of them has ended or has not
 module _ (ws : List ℕ) (q n m : ℕ) (is : filter (ends_behind q) (stacked ws m) ≡ filter (ends_behind q) (stacked ws n)) where
-  pub popped_all : m ≤ 0 → stacked ws m ≡ filter (ends_behind q) (stacked ws n)
-  popped_all l = ap (stacked ws) e ∙ none ∙ ap (λ k. filter (ends_behind q) (stacked ws k)) (sym e) ∙ is
+  pub popped_all : m ≤ 0 → stacked ws 0 ≡ filter (ends_behind q) (stacked ws n)
+  popped_all l = none ∙ ap (λ k. filter (ends_behind q) (stacked ws k)) (sym e) ∙ is
     where
       e : m ≡ 0
       e = omega arith
@@ -81,9 +81,10 @@ module _ (ws : List ℕ) (q n m : ℕ) (is : filter (ends_behind q) (stacked ws 
     pub popped_one : x ≤ q → filter (ends_behind q) (stacked ws (m - 1)) ≡ filter (ends_behind q) (stacked ws n)
     popped_one k = sym (pop_one q (stacked ws (m - 1)) (region_at ws (m - 1)) (omega (arith, end_is))) ∙ ap (filter (ends_behind q)) (sym top) ∙ is
 
-    pub popped_stop : Falling (stacked ws m) → q < x → stacked ws m ≡ filter (ends_behind q) (stacked ws n)
+    pub popped_stop : Falling (stacked ws m) → q < x → stacked ws (m - 1 + 1) ≡ filter (ends_behind q) (stacked ws n)
     popped_stop f k =
-        top ∙ sym (pop_stop q (stacked ws (m - 1)) (region_at ws (m - 1)) (subst (λ (l : List Region). Falling l) top f) (omega (arith, end_is)))
+        let e : m - 1 + 1 ≡ m = omega arith in
+        ap (stacked ws) e ∙ top ∙ sym (pop_stop q (stacked ws (m - 1)) (region_at ws (m - 1)) (subst (λ (l : List Region). Falling l) top f) (omega (arith, end_is)))
         ∙ ap (filter (ends_behind q)) (sym top) ∙ is
 
 -- what is left falls too

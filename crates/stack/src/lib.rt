@@ -38,14 +38,12 @@ pub fn pop_ended(held: &[u32], n: usize, p: u32) -> usize
     requires falling { Falling (stacked held.now n) }
     ensures { stacked held.now result ≡ filter (ends_behind p) (stacked held.now n) }
 {
-    let mut m = n;
-    while 0 < m {
-        if p < held[4 * (m - 1) + 1] {
-            return m;
+    for i in (0..n).rev() {
+        if p < held[4 * i + 1] {
+            return i + 1;
         }
-        m -= 1;
     }
-    m
+    0
 }
 
 // A region that starts before p: where it holds p, it goes on top. (There is room: it and those below it lie around the position where it starts.)
@@ -61,8 +59,9 @@ pub fn push(held: &mut [u32], n: usize, a: Region, p: u32) -> usize
     n + 1
 }
 
-// The pairs of d with the whole stack, past the mark: all of them are counted.
-fn pair_all(
+// The pairs of d with the whole stack, past the mark. All of them are counted; or those that fit, and no more are looked for once the room is used up. (Most of a join's
+// time is spent here: which of the two is asked for is settled before the program runs, so that no pair waits for that test.)
+fn pair_each<const ALL: bool>(
     held: &[u32],
     n: usize,
     d: Region,
@@ -73,42 +72,15 @@ fn pair_all(
 ) -> usize
     requires n_le_most_around { (n ≤ most_around) × (total ≤ 250000) × (length held.now ≡ held_words) }
     requires all { All (λ (a : Region). holds (choice_of kind) d.start a ≡ true) (stacked held.now n) }
-    ensures { PairedUp (stacked held.now n) kind mark d true out.old total out.new result }
-{
-    let mut k = total;
-    let mut i: usize = 0;
-    while i < n {
-        let a = region_at(held, i);
-        k = pairing::pair_one(a, d, kind, mark, out, k);
-        i += 1;
-    }
-    k
-}
-
-// The same, as long as they fit: once the room is used up, no more are looked for.
-fn pair_fitting(
-    held: &[u32],
-    n: usize,
-    d: Region,
-    kind: Kind,
-    mark: Mark,
-    out: &mut [u32],
-    total: usize,
-) -> usize
-    requires n_le_most_around { (n ≤ most_around) × (total ≤ 250000) × (length held.now ≡ held_words) }
-    requires all { All (λ (a : Region). holds (choice_of kind) d.start a ≡ true) (stacked held.now n) }
-    ensures { PairedUp (stacked held.now n) kind mark d false out.old total out.new result }
+    ensures { PairedUp (stacked held.now n) kind mark d ALL out.old total out.new result }
 {
     let room = out.len() / 4;
     let mut k = total;
-    let mut i: usize = 0;
-    while i < n {
-        if room <= k {
+    for i in 0..n {
+        if !ALL && room <= k {
             return k;
         }
-        let a = region_at(held, i);
-        k = pairing::pair_one(a, d, kind, mark, out, k);
-        i += 1;
+        k = pairing::pair_one(region_at(held, i), d, kind, mark, out, k);
     }
     k
 }
@@ -119,14 +91,10 @@ fn none_past(held: &[u32], n: usize, d: Region, mark: Mark) -> bool
     requires rising { Rising (stacked held.now n) }
     ensures { result ≡ true → All (λ (a : Region). is_past mark (pair_of d a) ≡ false) (stacked held.now n) }
 {
-    if n == 0 {
-        return true;
-    }
-    !pairing::is_past(mark, d, region_at(held, n - 1))
+    n == 0 || !pairing::is_past(mark, d, region_at(held, n - 1))
 }
 
-// ONE d: its pairs with the whole stack, past the mark; all are counted, or those that fit. (One loop with both tests would ask two things of each pair, and most of a
-// join's time is spent here.)
+// ONE d: its pairs with the whole stack, past the mark; all are counted, or those that fit.
 pub fn pair_up(
     held: &[u32],
     n: usize,
@@ -143,10 +111,10 @@ pub fn pair_up(
     ensures { PairedUp (stacked held.now n) kind mark d all out.old total out.new result }
 {
     if none_past(held, n, d, mark) {
-        return total;
+        total
+    } else if all {
+        pair_each::<true>(held, n, d, kind, mark, out, total)
+    } else {
+        pair_each::<false>(held, n, d, kind, mark, out, total)
     }
-    if all {
-        return pair_all(held, n, d, kind, mark, out, total);
-    }
-    pair_fitting(held, n, d, kind, mark, out, total)
 }

@@ -19,11 +19,7 @@ pub fn load_page(img: &[u32], p: u32) -> Page
 {
     let b = pages::page_at(p);
     let mut ws = [0u32; pages::PAGE_WIDTH];
-    let mut i: usize = 0;
-    while i < pages::PAGE_WIDTH {
-        ws[i] = img[b + i];
-        i += 1;
-    }
+    ws.copy_from_slice(&img[b..b + pages::PAGE_WIDTH]);
     ws
 }
 
@@ -34,11 +30,7 @@ pub fn store_page(img: &mut [u32], p: u32, ws: Page)
     ensures { img.new ≡ put_page img.old p ws }
 {
     let b = pages::page_at(p);
-    let mut i: usize = 0;
-    while i < pages::PAGE_WIDTH {
-        img[b + i] = ws[i];
-        i += 1;
-    }
+    img[b..b + pages::PAGE_WIDTH].copy_from_slice(&ws);
 }
 
 // Gives page p back: only its mark says that it is in use.
@@ -50,18 +42,13 @@ pub fn free_page(img: &mut [u32], p: u32)
     img[pages::page_at(p)] = 0;
 }
 
-// Moves n words, from word b on, up by k words. The last one goes first: where the two runs overlap, a word is read before another is written over it.
+// Moves n words, from word b on, up by k words. Where the two runs overlap, a word is read before another is written over it.
 pub fn move_up(img: &mut [u32], b: usize, n: usize, k: usize)
     requires img_len { length img.old ≡ image_words }
     requires n_bound { b + k + n ≤ image_words }
     ensures { img.new ≡ copied_in img.old (b + k) img.old b n }
 {
-    let mut moved: usize = 0;
-    while moved < n {
-        let j = n - (moved + 1);
-        img[b + k + j] = img[b + j];
-        moved += 1;
-    }
+    img.copy_within(b..b + n, b + k);
 }
 
 // The six words of entry i of leaf p; the sixth, spare, is 0.
@@ -147,30 +134,26 @@ pub fn set_height(img: &mut [u32], h: u32)
     img[1] = h;
 }
 
-// The first free page, 0 where none is free.
+// The first free page, 0 where none is free. No page has that number, and an image's links say none by it too; who calls knows that one is free, so an Option would only be unwrapped.
 pub fn first_free_page(img: &[u32]) -> u32
     ensures { FirstFree (page_used img.now) page_count result }
 {
-    let mut p: u32 = 1;
-    while p <= pages::PAGE_COUNT {
+    for p in 1..=pages::PAGE_COUNT {
         if pages::mark(img, p) == 0 {
             return p;
         }
-        p += 1;
     }
     0
 }
 
-// The first free stab record, 0 where none is free.
+// The first free stab record, 0 where none is free: likewise.
 pub fn first_free_record(img: &[u32]) -> u32
     ensures { FirstFree (record_used img.now) record_count result }
 {
-    let mut q: u32 = 1;
-    while q <= pages::RECORD_COUNT {
+    for q in 1..=pages::RECORD_COUNT {
         if pages::record_end(img, q) == 0 {
             return q;
         }
-        q += 1;
     }
     0
 }

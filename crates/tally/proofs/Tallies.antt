@@ -3,6 +3,7 @@
 use Prim.Native.Nat.{ℕ, ◌+◌, ◌≤◌}
 use mathlib.Core.Path.{◌≡◌, sym, refl, ap, ◌∙◌, subst}
 use mathlib.Core.Bool.{true, false}
+use Rattle.std.specs.Prelude.{Option, Some}
 use mathlib.Core.List.{List, [], ◌∷◌, ◌++◌}
 use lib.ListN.{length, length-append}
 use native.Mathlib.Omega.{arith}
@@ -14,16 +15,14 @@ use Rattle.regions.specs.Limits.{region_width}
 use Rattle.regions.specs.Calls.{region_words}
 use Rattle.answers.specs.Items.{written_from}
 use Rattle.answers.proofs.Items.{from_none, from_long, from_append}
-use Rattle.tally.specs.declared.Found.TheVariants.{At}
 use Rattle.tally.specs.declared.Task.{Task}
 use Rattle.tally.specs.declared.Tally.{Tally}
 use Rattle.tally.specs.Tasks.{accepts}
 use Rattle.tally.specs.Tallies.{last_found, taken, Tallied, stepped}
-use Rattle.tally.specs.declared.Found.{Found}
 
 -- one region taken
 abbrev pub counted : Tally → Region → Tally
-counted t a = record { total = t.total + 1; steps = t.steps; last = At a }
+counted t a = record { total = t.total + 1; steps = t.steps; last = Some a }
 
 module _ {task : Task} {out : List ℕ} {t : Tally} where
   -- ONE REGION MET: not asked for, or taken
@@ -53,10 +52,10 @@ pub record Leads (task : Task) (out₀ : List ℕ) (t₀ : Tally) (whole : List 
 pub leads_all : {task : Task} {out : List ℕ} {t : Tally} {whole : List Region} {all : ℕ} → Leads task out t whole all out t whole all 0
 leads_all = record { on = λ out' t' r. r; long = refl; total = omega arith; steps = omega arith }
 
-pub last_append : (f : Found) (xs ys : List Region) → last_found f (xs ++ ys) ≡ last_found (last_found f xs) ys
+pub last_append : (f : Option Region) (xs ys : List Region) → last_found f (xs ++ ys) ≡ last_found (last_found f xs) ys
 unfolding last_found
 last_append f [] ys = refl
-last_append f (x ∷ xs) ys = last_append (At x) xs ys
+last_append f (x ∷ xs) ys = last_append (Some x) xs ys
 
 module _ {task : Task} {out : List ℕ} {t : Tally} where
   pub tallied_short : {rs : List Region} {n : ℕ} {out' : List ℕ} {t' : Tally} → Tallied task out t rs n out' t' → t'.total ≤ t.total + length rs

@@ -1,26 +1,24 @@
 -- What a search has counted and written once it has met some regions in turn.
 -- Assumes nothing.
-use Rattle.std.specs.Prelude.{ℕ, ◌+◌, ◌<◌, ◌≡◌, List, [], ◌∷◌, length}
+use Rattle.std.specs.Prelude.{ℕ, ◌+◌, ◌<◌, ◌≡◌, List, [], ◌∷◌, length, Option, Some, None}
 use Rattle.words.specs.Lists.{filter}
 use Rattle.regions.specs.declared.Region.{Region}
 use Rattle.regions.specs.Limits.{region_width}
 use Rattle.regions.specs.Calls.{written, region_words}
 use Rattle.answers.specs.Items.{written_from}
-use Rattle.tally.specs.declared.Found.{Found}
-use Rattle.tally.specs.declared.Found.TheVariants.{Nothing, At}
 use Rattle.tally.specs.declared.Task.{Task}
 use Rattle.tally.specs.declared.Tally.{Tally}
 use Rattle.tally.specs.Tasks.{accepts}
 
 -- none or one region
-unfoldable pub found_list : Found → List Region
-found_list Nothing = []
-found_list (At a) = a ∷ []
+unfoldable pub found_list : Option Region → List Region
+found_list None = []
+found_list (Some a) = a ∷ []
 
 -- the last of some regions, or what was found before
-unfoldable pub last_found : Found → List Region → Found
+unfoldable pub last_found : Option Region → List Region → Option Region
 last_found f [] = f
-last_found f (a ∷ rest) = last_found (At a) rest
+last_found f (a ∷ rest) = last_found (Some a) rest
 
 -- those that the task accepts of the regions met
 abbrev pub taken : Task → List Region → List Region
@@ -43,11 +41,11 @@ Small more t = (t.total < 1099511627776 + more) × (t.steps < 1099511627776 + mo
 
 -- where a search begins
 abbrev pub fresh_tally : Tally
-fresh_tally = record { total = 0; steps = 0; last = Nothing }
+fresh_tally = record { total = 0; steps = 0; last = None }
 
 -- what ancestor search answers: the words, the total, the steps (and its tally's last)
 pub record AncestorsFound (found : List Region) (n : ℕ) (out out' : List ℕ) (r : Tally) : Type 0 where
   pub words : out' ≡ written region_words region_width out found
   pub total : r.total ≡ length found
   pub steps : r.steps ≡ n
-  pub last : r.last ≡ last_found Nothing found
+  pub last : r.last ≡ last_found None found

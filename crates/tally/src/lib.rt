@@ -1,4 +1,4 @@
-// What a search has met so far, by value: how many ancestors it took, the steps it made, the last one taken. Each ancestor that it meets is counted here, and written where there is room.
+// What a search has met so far: how many ancestors it took, the steps it made, the last one taken. Each ancestor that it meets is counted here, and written where there is room.
 #![tactic(auto)]
 
 ghost use Rattle.std.specs.Prelude.{◌≡◌, [], ◌∷◌};
@@ -7,74 +7,63 @@ ghost use Rattle.tally.specs.Tallies.{Tallied, stepped, fresh_tally, Small};
 
 use regions::Region;
 
-// None, or the last region that a search took.
-#[derive(Clone, Copy)]
-pub enum Found {
-    Nothing,
-    At(Region),
-}
-
-// Which ancestors are taken: all; those of the level one less.
-#[derive(Clone, Copy)]
+// Which ancestors are taken: all; those of the level one less. That is no optional level: a search has one of two tasks, and each is called by its name.
+#[derive(Clone, Copy, Debug, PartialEq, Eq)]
 pub enum Task {
     List,
     Above(u32),
 }
 
+impl Task {
+    // Whether the task takes an ancestor.
+    fn takes(self, a: Region) -> bool
+        ensures { result ≡ accepts self a }
+    {
+        match self {
+            Task::List => true,
+            Task::Above(level) => regions::is_above(level, a),
+        }
+    }
+}
+
 // How many ancestors were taken, the steps made, and the last one taken.
-#[derive(Clone, Copy)]
+#[derive(Clone, Copy, Debug, PartialEq, Eq)]
 pub struct Tally {
     pub total: usize,
     pub steps: usize,
-    pub last: Found,
+    pub last: Option<Region>,
 }
 
-// Whether the task takes an ancestor.
-fn is_asked(task: Task, a: Region) -> bool
-    ensures { result ≡ accepts task a }
-{
-    match task {
-        Task::List => true,
-        Task::Above(level) => regions::is_above(level, a),
+impl Tally {
+    // Where a search begins.
+    pub fn fresh() -> Self
+        ensures { result ≡ fresh_tally }
+    {
+        Tally {
+            total: 0,
+            steps: 0,
+            last: None,
+        }
     }
-}
 
-// One page or one stab record looked at.
-pub fn step(t: Tally) -> Tally
-    requires { Small 50000 t }
-    ensures { result ≡ stepped t }
-{
-    let last = t.last;
-    Tally {
-        total: t.total,
-        steps: t.steps + 1,
-        last,
+    // One page or one stab record looked at.
+    pub fn step(&mut self)
+        requires { Small 50000 self.old }
+        ensures { self.new ≡ stepped self.old }
+    {
+        self.steps += 1;
     }
-}
 
-// Meets one ancestor: where it is asked for, it is written and counted.
-pub fn visit(task: Task, a: Region, out: &mut [u32], t: Tally) -> Tally
-    requires { Small 50000 t }
-    ensures { Tallied task out.old t (a ∷ []) 0 out.new result }
-{
-    if !is_asked(task, a) {
-        return t;
-    }
-    answers::put_region(out, t.total, a);
-    Tally {
-        total: t.total + 1,
-        steps: t.steps,
-        last: Found::At(a),
-    }
-}
-
-// Where a search begins.
-pub fn fresh() -> Tally
-    ensures { result ≡ fresh_tally }
-{
-    Tally {
-        total: 0,
-        steps: 0,
-        last: Found::Nothing,
+    // Meets one ancestor: where it is asked for, it is written and counted.
+    pub fn visit(&mut self, task: Task, a: Region, out: &mut [u32])
+        requires { Small 50000 self.old }
+        ensures { Tallied task out.old self.old (a ∷ []) 0 out.new self.new }
+    {
+        if !task.takes(a) {
+            return;
+        }
+        answers::put_region(out, self.total, a);
+        self.total += 1;
+        self.last = Some(a);
     }
 }

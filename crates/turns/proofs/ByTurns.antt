@@ -31,9 +31,9 @@ module _ (X Y : Set) (ys : List Seat) where
   unfolding put_at
   desk_next i s e = ap (set (desk_at i) i) (e ∙ ap (turned X Y) (seat_now i)) ∙ ap desk_at (sym (add-one i))
 
-  pub counts_next : (i : ℕ) (cs : List ℕ) → cs ≡ set (counts_at i) i (count_handed X Y (seat_at (desk_at i) i)) → cs ≡ counts_at (i + 1)
+  pub counts_next : (i n : ℕ) → n ≡ count_handed X Y (seat_at (desk_at i) i) → set (counts_at i) i n ≡ counts_at (i + 1)
   unfolding put_at
-  counts_next i cs e = e ∙ ap (λ (s : Seat). set (counts_at i) i (count_handed X Y s)) (seat_now i) ∙ ap counts_at (sym (add-one i))
+  counts_next i n e = ap (set (counts_at i) i) (e ∙ ap (count_handed X Y) (seat_now i)) ∙ ap counts_at (sym (add-one i))
 
   module _ (zs : List ℕ) where
     abbrev pub buffer_at : ℕ → List ℕ
@@ -93,12 +93,12 @@ module _ (os ns : List ℕ) (ys : List Seat) (zs : List ℕ) where
           fits = ap seat_fits (seat_same ∙ seat_now X Y ys i) ∙ each_fits ys i m.fits l;
         }
 
-    pub stands_next : i < seat_count → (t : Seat) (cs' b' : List ℕ) → Turns X Y (seat_at ds i) b i cs t cs' b' → Stands (i + 1) (set ds i t) cs' b'
-    stands_next l t cs' b' u =
+    pub stands_next : i < seat_count → (t : Seat) (n : ℕ) (b' : List ℕ) → Turns X Y (seat_at ds i) b i t n b' → Stands (i + 1) (set ds i t) (set cs i n) b'
+    stands_next l t n b' u =
         record {
           few = omega arith;
           desk_is = ap (λ (l : List Seat). set l i t) s.desk_is ∙ desk_next X Y ys i t (subst (λ (v : Seat). t ≡ turned X Y v) seat_same u.seat_is);
-          counts_are = counts_next X Y ys i cs' (u.counts_are ∙ ap₂ (λ (l : List ℕ) (v : Seat). set l i (count_handed X Y v)) s.counts_are seat_same);
+          counts_are = ap (λ (l : List ℕ). set l i n) s.counts_are ∙ counts_next X Y ys i n (u.count_is ∙ ap (count_handed X Y) seat_same);
           buffer_is = buffer_next X Y ys zs i b' (u.buffer_is ∙ ap₂ (λ (l : List ℕ) (v : Seat). sets l (seat_word i) (handed_words X Y v)) s.buffer_is seat_same);
         }
 

@@ -6,11 +6,11 @@ use native.Mathlib.Omega.{arith}
 use mathlib.Core.Path.{◌≡◌, sym, ap, ap₂, ◌∙◌, subst}
 use mathlib.Core.Bool.{Bool, true, false}
 use mathlib.Core.List.{List, ◌++◌, flat_map, append_assoc}
-use lib.ListN.{length, take, drop, set, length-take, length-drop, take-append-drop}
+use lib.ListN.{length, take, drop, length-take, length-drop, take-append-drop}
 use lib.Seq.{sets, sets-eq, length-sets, drop-append-le, drop-drop}
 use borrow.Rule.Slice.PartMut.{mid_of, put_mid}
 use Rattle.words.proofs.Written.{flat_long}
-use Rattle.regions.specs.Limits.{most_aRound}
+use Rattle.regions.specs.Limits.{most_a_round}
 use Rattle.regions.specs.Sets.{Set}
 use Rattle.regions.specs.Calls.{pair_words, written, count_written, joined}
 use Rattle.regions.specs.Desk.{open_at, state_fits, seat_word, past, mark_behind, state_handed, handed_words, state_turned}
@@ -61,7 +61,7 @@ hands X Y o b i k all n w e h f joins g z =
       words = ap (put_mid (128 * i) k b) (j.words ∙ ap (λ (m : ℕ). sets (mid_of (128 * i) k b) 0 (flat_map pair_words (take m qs))) room) ∙ put_part (128 * i) k b (flat_map pair_words (take o.limit qs)) fit few;
     }
 
-pub hands_few : (X Y : Set) (o : Open) (b : List ℕ) (i n : ℕ) (w : List ℕ) → state_fits (Opened o) ≡ true → Hands X Y o b i n w → n ≤ most_aRound
+pub hands_few : (X Y : Set) (o : Open) (b : List ℕ) (i n : ℕ) (w : List ℕ) → state_fits (Opened o) ≡ true → Hands X Y o b i n w → n ≤ most_a_round
 hands_few X Y o b i n w f h = let e = h.count in let l = handed_limit X Y (Opened o) in let m = limit_small (Opened o) f in omega arith
 
 pub hands_long : (X Y : Set) (o : Open) (b : List ℕ) (i n : ℕ) (w : List ℕ) → length b ≡ 1024 → Hands X Y o b i n w → length w ≡ 1024
@@ -71,26 +71,26 @@ hands_long X Y o b i n w e h = ap length h.words ∙ length-sets b (seat_word i)
 pub may_open : (w w' : List ℕ) (s : Seat) (o : Open) (b : List ℕ) (i : ℕ) → s.state ≡ Opened o → MayTurn w w' s b i → MayTurn w w' (open_at o) b i
 may_open w w' s o b i e m = record { outer_valid = m.outer_valid; inner_valid = m.inner_valid; words = m.words; seat = m.seat; fits = sym (ap state_fits e) ∙ m.fits }
 
-pub open_turn : (X Y : Set) (s : Seat) (o : Open) (b : List ℕ) (i : ℕ) (cs : List ℕ) (n : ℕ) (w : List ℕ) (m : Mark) (s' : Seat)
+pub open_turn : (X Y : Set) (s : Seat) (o : Open) (b : List ℕ) (i n : ℕ) (w : List ℕ) (m : Mark) (s' : Seat)
     → s.state ≡ Opened o → length b ≡ 1024 → i < 8 → state_fits (Opened o) ≡ true → Hands X Y o b i n w → m ≡ mark_read o.mark w (seat_word i) n → s' ≡ moved o m
-    → Turns X Y s b i cs s' (set cs i n) w
+    → Turns X Y s b i s' n w
 unfolding state_turned
-open_turn X Y s o b i cs n w m s' e long below f h r d =
+open_turn X Y s o b i n w m s' e long below f h r d =
     let fit = handed_limit X Y (Opened o) in
     let small = limit_small (Opened o) f in
     let marked : m ≡ mark_behind o.mark (state_handed X Y (Opened o)) =
     r ∙ ap₂ (λ (l : List ℕ) (c : ℕ). mark_read o.mark l (seat_word i) c) h.words h.count ∙ mark_read_lem o.mark b (seat_word i) (state_handed X Y (Opened o)) (omega arith) in
     record {
       seat_is = d ∙ ap (moved o) marked ∙ sym (ap (λ (t : State). seat_of (state_turned X Y t)) e);
-      counts_are = ap (set cs i) (h.count ∙ sym (ap (λ (t : State). length (state_handed X Y t)) e));
+      count_is = h.count ∙ sym (ap (λ (t : State). length (state_handed X Y t)) e);
       buffer_is = h.words ∙ sym (ap (λ (t : State). sets b (seat_word i) (flat_map pair_words (state_handed X Y t))) e);
     }
 
-pub closed_turn : (X Y : Set) (s : Seat) (b : List ℕ) (i : ℕ) (cs : List ℕ) → s.state ≡ Closed → Turns X Y s b i cs s (set cs i 0) b
+pub closed_turn : (X Y : Set) (s : Seat) (b : List ℕ) (i : ℕ) → s.state ≡ Closed → Turns X Y s b i s 0 b
 unfolding state_turned state_handed flat_map
-closed_turn X Y s b i cs e =
+closed_turn X Y s b i e =
     record {
       seat_is = ap seat_of e ∙ sym (ap (λ (t : State). seat_of (state_turned X Y t)) e);
-      counts_are = ap (set cs i) (sym (ap (λ (t : State). length (state_handed X Y t)) e));
+      count_is = sym (ap (λ (t : State). length (state_handed X Y t)) e);
       buffer_is = sym (ap (λ (t : State). sets b (seat_word i) (flat_map pair_words (state_handed X Y t))) e);
     }

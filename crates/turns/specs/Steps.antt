@@ -1,6 +1,6 @@
 -- What a seat's turn asks and leaves, and what all eight do.
 -- Assumes nothing.
-use Rattle.std.specs.Prelude.{ℕ, ◌<◌, ◌≡◌, true, List, map, length, set}
+use Rattle.std.specs.Prelude.{ℕ, ◌<◌, ◌≡◌, true, List, map, length}
 use Rattle.std.proofs.lemmas.List.Edits.{sets}
 use Rattle.regions.specs.Limits.{buffer_words, seat_count}
 use Rattle.regions.specs.Sets.{Set}
@@ -22,9 +22,9 @@ pub record Hands (X Y : Set) (o : Open) (b : List ℕ) (i n : ℕ) (b' : List �
   pub count : n ≡ count_handed X Y (open_at o)
   pub words : b' ≡ sets b (seat_word i) (handed_words X Y (open_at o))
 
-pub record Turns (X Y : Set) (s : Seat) (b : List ℕ) (i : ℕ) (cs : List ℕ) (s' : Seat) (cs' b' : List ℕ) : Type 0 where
+pub record Turns (X Y : Set) (s : Seat) (b : List ℕ) (i : ℕ) (s' : Seat) (n : ℕ) (b' : List ℕ) : Type 0 where
   pub seat_is : s' ≡ turned X Y s
-  pub counts_are : cs' ≡ set cs i (count_handed X Y s)
+  pub count_is : n ≡ count_handed X Y s
   pub buffer_is : b' ≡ sets b (seat_word i) (handed_words X Y s)
 
 -- ALL EIGHT TURNS

@@ -1,4 +1,4 @@
-// A SEAT'S TURN in a round: its next pairs into its own words of the buffer. And all eight turns, with the seats by value.
+// A SEAT'S TURN in a round: its next pairs into its own words of the buffer. And all eight turns.
 #![tactic(auto)]
 
 ghost use Rattle.regions.specs.Desk.{open_at};
@@ -7,94 +7,51 @@ ghost use Rattle.turns.specs.Steps.{MayTurn, Hands, Turns, MayServe, Serves};
 
 use regions::{Open, Seat, State};
 
-// A seat after its turn, and the counts with its own.
-#[derive(Clone, Copy)]
-pub struct Turn {
-    pub seat: Seat,
-    pub counts: [u32; regions::SEAT_COUNT],
-}
-
 // Hands an open seat its next pairs: its part of the buffer, as long as its limit, is lent on to the join's writer, which tells how many it wrote.
 fn hand(outer: &[u32], inner: &[u32], o: Open, buffer: &mut [u32], i: usize) -> usize
     requires { MayTurn outer.now inner.now (open_at o) buffer.old i }
     ensures { Hands (set_of outer.now) (set_of inner.now) o buffer.old i result buffer.new }
 {
-    let kind = o.kind;
-    let mark = o.mark;
     let a = regions::SEAT_WIDTH * i;
     let e = a + regions::PAIR_WIDTH * seats::pairs_a_turn(o);
     join::pairs_past(
         outer,
         inner,
         o.account,
-        kind,
-        mark,
+        o.kind,
+        o.mark,
         &mut buffer[a..e],
         false,
     )
 }
 
-// A seat's turn: its next pairs into its own words, its count among the eight, and its mark moved behind what it was handed.
-pub fn seat_turn(
-    outer: &[u32],
-    inner: &[u32],
-    s: Seat,
-    buffer: &mut [u32],
-    i: usize,
-    counts: [u32; regions::SEAT_COUNT],
-) -> Turn
-    requires { MayTurn outer.now inner.now s buffer.old i }
-    ensures { Turns (set_of outer.now) (set_of inner.now) s buffer.old i counts result.seat result.counts buffer.new }
+// A seat's turn: its next pairs into its own words, and its mark moved behind what it was handed. It tells how many they are.
+pub fn seat_turn(outer: &[u32], inner: &[u32], s: &mut Seat, buffer: &mut [u32], i: usize) -> u32
+    requires { MayTurn outer.now inner.now s.old buffer.old i }
+    ensures { Turns (set_of outer.now) (set_of inner.now) s.old buffer.old i s.new result buffer.new }
 {
-    let mut c = counts;
-    let st = s.state;
-    match st {
-        State::Closed => {
-            c[i] = 0;
-            Turn { seat: s, counts: c }
-        }
-        State::Open(o) => {
-            let n = hand(outer, inner, o, buffer, i);
-            c[i] = n as u32;
-            let was = o.mark;
-            let mark = seats::mark_behind(was, buffer, regions::SEAT_WIDTH * i, n);
-            Turn {
-                seat: seats::moved(o, mark),
-                counts: c,
-            }
-        }
-    }
+    let State::Open(o) = s.state else {
+        return 0;
+    };
+    let n = hand(outer, inner, o, buffer, i);
+    let mark = seats::mark_behind(o.mark, buffer, regions::SEAT_WIDTH * i, n);
+    *s = seats::moved(o, mark);
+    n as u32
 }
 
-// The seats after their turns, and the eight counts.
-#[derive(Clone, Copy)]
-pub struct Served {
-    pub seats: [Seat; regions::SEAT_COUNT],
-    pub counts: [u32; regions::SEAT_COUNT],
-}
-
-// Serves the seats from 0 to 7, each into its own words of the buffer.
+// Serves the seats from 0 to 7, each into its own words of the buffer, and tells the eight counts.
 pub fn serve(
     outer: &[u32],
     inner: &[u32],
-    seats: [Seat; regions::SEAT_COUNT],
+    desk: &mut [Seat],
     buffer: &mut [u32],
-) -> Served
-    requires { MayServe outer.now inner.now seats buffer.old }
-    ensures { Serves (set_of outer.now) (set_of inner.now) seats buffer.old result.seats result.counts buffer.new }
+) -> [u32; regions::SEAT_COUNT]
+    requires { MayServe outer.now inner.now desk.old buffer.old }
+    ensures { Serves (set_of outer.now) (set_of inner.now) desk.old buffer.old desk.new result buffer.new }
 {
-    let mut counts = [0u32; regions::SEAT_COUNT];
-    let mut desk = seats;
-    let mut i = 0;
-    while i < regions::SEAT_COUNT {
-        let t = seat_turn(outer, inner, desk[i], buffer, i, counts);
-        let s = t.seat;
-        desk[i] = s;
-        counts = t.counts;
-        i += 1;
+    let mut counts = [0; regions::SEAT_COUNT];
+    for i in 0..regions::SEAT_COUNT {
+        counts[i] = seat_turn(outer, inner, &mut desk[i], buffer, i);
     }
-    Served {
-        seats: desk,
-        counts: counts,
-    }
+    counts
 }

@@ -3,4 +3,4 @@ use Rattle.capi.proofs.Calls.{opens_desk}
 use Rattle.capi.proofs.sasnuvarth_open_desk.Goals as goal
 
 pub returns : goal.returns
-returns c = opens_desk _ _ _ _ c.closed_seat-s.ensures c.open_desk_by_value-opened.ensures c.flat_desk.ensures
+returns c = opens_desk _ _ c.closed_seat.ensures c.flat_desk.ensures

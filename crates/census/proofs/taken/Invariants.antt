@@ -6,6 +6,3 @@ use Rattle.census.proofs.taken.Given as goal
 
 abbrev pub invariant-loop-i : goal.invariant-loop-i
 invariant-loop-i l = (length l.held ≡ 16) × ((k : ℕ) → k < l.i → get_or l.held k 0 ≡ get_or l.img (2 + k) 0 - get_or l.left k 0)
-
-abbrev pub decreases-loop-i : goal.decreases-loop-i
-decreases-loop-i l = 16 - l.i

@@ -1,17 +1,16 @@
 -- `changes::save_kept` meets its contract.
-use Rattle.changes.proofs.Counts.{stays_counted, save_counts, save_counted}
+use native.Mathlib.Omega.{arith}
+use Rattle.changes.proofs.Counts.{save_counts, save_counted}
 use Rattle.changes.proofs.save_kept.Goals as goal
 
-pub save-number-requires : goal.save-number-requires
-save-number-requires c = record { img_valid = c.requires.0; account_value = c.requires.1.1 _ }
+pub bounds-held-account : goal.bounds-held-account
+bounds-held-account c = (save_counts c.args.img.now c.args.held.now c.requires.0 c.requires.1 _ _ _ c.in_ok-save.ensures).0
 
-pub returns-then-number-ne0 : goal.returns-then-number-ne0
-returns-then-number-ne0 c =
-    let k = stays_counted c.args.img.now c.args.held c.requires.0 c.requires.1 _ (c.save-number.ensures.refused c.if-number-ne0.true) in
-    (c.save-number.ensures, k.0, k.1)
+pub overflow_add-held : goal.overflow_add-held
+overflow_add-held c = omega (arith, (save_counts c.args.img.now c.args.held.now c.requires.0 c.requires.1 _ _ _ c.in_ok-save.ensures).1)
 
-pub counted-requires : goal.counted-requires
-counted-requires c = save_counts c.args.img.now c.args.held c.requires.0 c.requires.1 _ _ _ _ c.save-number.ensures c.if-number-ne0.false
+pub bounds-held-account-2 : goal.bounds-held-account-2
+bounds-held-account-2 c = (save_counts c.args.img.now c.args.held.now c.requires.0 c.requires.1 _ _ _ c.in_ok-save.ensures).0
 
-pub returns : goal.returns
-returns c = save_counted c.args.img.now c.args.held c.requires.0 c.requires.1 _ _ _ _ c.save-number.ensures c.if-number-ne0.false _ c.counted.ensures
+pub returns-clause-saves : goal.returns-clause-saves
+returns-clause-saves c = let k = save_counted c.args.img.now c.args.held.now c.requires.0 c.requires.1 _ _ _ c.in_ok-save.ensures in (c.in_ok-save.ensures, k.0, k.1)

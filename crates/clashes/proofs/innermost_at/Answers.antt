@@ -2,8 +2,8 @@
 use Rattle.clashes.proofs.Reaching.{reach_zero, reach_last}
 use Rattle.clashes.proofs.innermost_at.Goals as goal
 
-pub returns-then-x-eq0 : goal.returns-then-x-eq0
-returns-then-x-eq0 c = reach_zero c.args.img.now _ c.if-x-eq0.true
+pub returns-in_err-before : goal.returns-in_err-before
+returns-in_err-before c = reach_zero c.args.img.now _ _ c.in_err-before.ensures c.from_residual.ensures
 
 pub returns : goal.returns
-returns c = reach_last _ _ c.if-x-eq0.false _ c.ancestors-t.ensures.last
+returns c = reach_last _ _ _ _ c.in_ok-before.ensures c.ancestors.ensures.last

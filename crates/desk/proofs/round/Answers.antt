@@ -1,36 +1,21 @@
-use native.Mathlib.Omega.{arith}
-use Rattle.seats.proofs.Fitting.{eight_seats}
-use Rattle.turns.proofs.ByTurns.{stands_first, stands_may, stands_next, stands_last}
-use Rattle.desk.proofs.Served.{number_told, may_serve, round_refused, round_served}
+-- `desk::round` meets its contract: by its number, and where that is 0 by what all eight turns do.
+use Rattle.std.proofs.lemmas.Result.{err_from_is_err_and}
+use Rattle.regions.proofs.Refused.{refused_some}
+use Rattle.desk.proofs.Served.{told_number, may_serve, round_refused, round_served}
 use Rattle.desk.proofs.round.Goals as goal
 
-pub loop-i-init : goal.loop-i-init
-loop-i-init c = stands_first _ _ _ _
+pub returns-in_err-may_round : goal.returns-in_err-may_round
+returns-in_err-may_round c =
+    let a = c.args in
+    let x = err_from_is_err_and c.from_residual.result c.from_residual.ensures.1 in rw (x.1, x.2)
+    (round_refused _ _ _ _ _ (told_number a.outer.now a.inner.now a.desk.now a.buffer.now _ _ _ c.in_err-may_round.ensures c.images_valid-images.ensures c.desk_fits.ensures) (refused_some _))
 
-pub slice_copy_out-seat_turn : goal.slice_copy_out-seat_turn
-slice_copy_out-seat_turn c =
-    let m = may_serve _ _ _ _ _ (number_told c.args.outer.now c.args.inner.now c.args.desk.now c.args.buffer.now _ _ _ c.round_number-number.ensures c.images_valid.ensures c.desk_fits.ensures) c.if-number-eq0.true in
-    omega (arith, eight_seats c.args.desk.now m.fits)
+pub serve-requires : goal.serve-requires
+serve-requires c =
+    let a = c.args in
+    may_serve _ _ _ _ (told_number a.outer.now a.inner.now a.desk.now a.buffer.now _ _ _ c.in_ok-may_round.ensures c.images_valid-images.ensures c.desk_fits.ensures)
 
-pub seat_turn-t-requires : goal.seat_turn-t-requires
-seat_turn-t-requires c =
-    let m = may_serve _ _ _ _ _ (number_told c.args.outer.now c.args.inner.now c.args.desk.now c.args.buffer.now _ _ _ c.round_number-number.ensures c.images_valid.ensures c.desk_fits.ensures) c.if-number-eq0.true in
-    stands_may _ _ _ _ _ _ _ _ c.loop-i.invariant m (omega arith)
-
-pub bounds-desk-i : goal.bounds-desk-i
-bounds-desk-i c =
-    let m = may_serve _ _ _ _ _ (number_told c.args.outer.now c.args.inner.now c.args.desk.now c.args.buffer.now _ _ _ c.round_number-number.ensures c.images_valid.ensures c.desk_fits.ensures) c.if-number-eq0.true in
-    omega (arith, eight_seats c.args.desk.now m.fits)
-
-pub loop-i-preserved : goal.loop-i-preserved
-loop-i-preserved c = stands_next _ _ _ _ _ _ _ _ c.loop-i.invariant (omega arith) _ _ _ c.seat_turn-t.ensures
-
-pub returns-after-loop-i : goal.returns-after-loop-i
-returns-after-loop-i c =
-    let n = number_told c.args.outer.now c.args.inner.now c.args.desk.now c.args.buffer.now _ _ _ c.round_number-number.ensures c.images_valid.ensures c.desk_fits.ensures in
-    let m = may_serve _ _ _ _ _ n c.if-number-eq0.true in
-    round_served _ _ _ _ _ _ _ _ n c.if-number-eq0.true (stands_last _ _ _ _ _ _ _ _ c.loop-i.invariant m (omega arith))
-
-pub returns-else-number-eq0 : goal.returns-else-number-eq0
-returns-else-number-eq0 c =
-    round_refused _ _ _ _ _ (number_told _ _ _ _ _ _ _ c.round_number-number.ensures c.images_valid.ensures c.desk_fits.ensures) c.if-number-eq0.false
+pub returns : goal.returns
+returns c =
+    let a = c.args in
+    round_served _ _ _ _ _ _ _ (told_number a.outer.now a.inner.now a.desk.now a.buffer.now _ _ _ c.in_ok-may_round.ensures c.images_valid-images.ensures c.desk_fits.ensures) c.serve.ensures

@@ -4,24 +4,20 @@ use native.Mathlib.Omega.{arith}
 use Rattle.entries.proofs.Halves.{nobody_done, spot_range, spot_fill, read_ends, leave_done}
 use Rattle.entries.proofs.leave_owner.Goals as goal
 
-pub returns-then-at-eq0 : goal.returns-then-at-eq0
-returns-then-at-eq0 c = nobody_done _ _ _ _ c.if-at-eq0.true
+pub returns-in_default : goal.returns-in_default
+returns-in_default c = nobody_done _ _ _ _ c.in_default.not-Some
 
 pub key_words-k-requires : goal.key_words-k-requires
-key_words-k-requires c = let f = spot_fill _ _ _ c.requires c.if-at-eq0.false in omega arith
+key_words-k-requires c = let f = spot_fill _ _ _ c.requires _ c.in-Some.is in omega arith
 
 pub leave-left-requires : goal.leave-left-requires
-leave-left-requires c =
-    let s = c.requires in
-    (s.lies.long, read_ends _ _ _ s c.if-at-eq0.false _ c.key_words-k.ensures)
+leave-left-requires c = (c.requires.lies.long, read_ends _ _ _ c.requires _ c.in-Some.is _ c.key_words-k.ensures)
 
 pub put_key-requires : goal.put_key-requires
-put_key-requires c = let s = c.requires in
-    let left = c.if-at-eq0.false in
-    let r = spot_range _ _ _ s left in
-    let f = spot_fill _ _ _ s left in
-    record { img_len = search rules; le_p = (r.0, r.1, omega arith) }
+put_key-requires c =
+    let p = spot_range _ _ _ c.requires _ c.in-Some.is in
+    let f = spot_fill _ _ _ c.requires _ c.in-Some.is in
+    record { img_len = search rules; le_p = (p.0, p.1, omega arith) }
 
-pub returns : goal.returns
-returns c =
-    λ s. leave_done _ _ _ _ _ s c.if-at-eq0.false _ _ c.key_words-k.ensures c.put_key.ensures c.leave-left.ensures
+pub returns-in-Some : goal.returns-in-Some
+returns-in-Some c = λ s. leave_done _ _ _ _ _ s _ c.in-Some.is _ _ c.key_words-k.ensures c.put_key.ensures c.leave-left.ensures

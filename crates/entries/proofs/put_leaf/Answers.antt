@@ -1,37 +1,30 @@
 -- `entries::put_leaf` moves the entries behind, writes the entry into the gap and raises the fill: the leaf is stored with the entry.
--- once the place is known: there is room, and the page is one of the image
 use borrow.Author.Rules.{rules}
-use Prim.Native.Nat.{◌≤◌}
 use native.Mathlib.Omega.{arith}
-use Rattle.pages.specs.Layout.{page_of, fill_of}
 use Rattle.entries.proofs.Halves.{room_for, put_leaf_done}
 use Rattle.entries.proofs.put_leaf.Goals as goal
-use Rattle.entries.proofs.put_leaf.Goals.{After-entries_before-i}
-
-room : (c : After-entries_before-i) → let s = c.args in (c.entries_before-i.result ≤ fill_of (page_of s.img.now s.leaf)) × (fill_of (page_of s.img.now s.leaf) ≤ 8) × (1 ≤ s.leaf) × (s.leaf ≤ 160)
-room c = room_for _ _ _ _ c.entries_before-i.ensures c.requires
 
 pub entry_word-requires : goal.entry_word-requires
-entry_word-requires c = let h = room c.before.before in omega arith
+entry_word-requires c = let h = room_for _ _ _ _ c.entries_before-i.ensures c.requires in omega arith
 
 pub overflow_add-gap : goal.overflow_add-gap
-overflow_add-gap c = let h = room c.before.before.before in omega arith
+overflow_add-gap c = let h = room_for _ _ _ _ c.entries_before-i.ensures c.requires in omega arith
 
 pub overflow_sub-run : goal.overflow_sub-run
-overflow_sub-run c = let h = room c.before.before.before.before in omega arith
+overflow_sub-run c = let h = room_for _ _ _ _ c.entries_before-i.ensures c.requires in omega arith
 
 pub move_up-requires : goal.move_up-requires
-move_up-requires c = let h = room c.before.before.before.before.before in record { img_len = search rules; n_bound = omega arith }
+move_up-requires c = let h = room_for _ _ _ _ c.entries_before-i.ensures c.requires in record { img_len = search rules; n_bound = omega arith }
 
 pub put_entry-requires : goal.put_entry-requires
-put_entry-requires c = let h = room c.before.before.before.before.before.before.before.before.before in record { img_len = search rules; le_p = (h.2, h.3, omega arith) }
+put_entry-requires c = let h = room_for _ _ _ _ c.entries_before-i.ensures c.requires in record { img_len = search rules; le_p = (h.2, h.3, omega arith) }
 
 pub set_fill-requires : goal.set_fill-requires
-set_fill-requires c = let h = room c.before.before.before.before.before.before.before.before.before.before.before.before.before in
+set_fill-requires c = let h = room_for _ _ _ _ c.entries_before-i.ensures c.requires in
     record { img_len = search rules; le_p = (h.2, h.3) }
 
 pub returns : goal.returns
 returns c =
     put_leaf_done _ _ _ _ _ _ _ _ _ _ _ _ c.entries_before-i.ensures c.requires.1
-    (omega (arith, c.page_at.ensures, c.entry_word.ensures)) (omega (arith, c.fill-n.ensures, c.wide.ensures)) c.move_up.ensures
+    (omega (arith, c.page_at.ensures, c.entry_word.ensures)) (omega (arith, c.fill-n.ensures)) c.move_up.ensures
     (omega arith) c.put_entry.ensures (omega (arith, c.fill-n.ensures)) c.set_fill.ensures

@@ -1,28 +1,22 @@
--- What is left of the flags decides: a flag that is wrong ends the loop, and a right one leaves it to the rest.
-use Prim.Native.Nat.{◌-◌}
-use mathlib.Core.Path.{◌≡◌, ◌∙◌}
-use native.Mathlib.Omega.{arith}
-use Rattle.pages.specs.Layout.{page_of}
-use Rattle.flags.proofs.Loop.{flags_more, flags_no, flags_done}
+-- `flags::flags_right` meets its contract: the numbers below the fill, tested in turn, are the entries.
+use Rattle.std.proofs.Common.{◌≡◌, ℕ, zero, suc, ◌&&◌, List, refl, ap, ◌∙◌, arith, rules, tests, add-one}
+use Rattle.std.specs.List.{list_all, range_with_len}
+use Rattle.std.proofs.lemmas.Iterator.{YieldsList-from_range}
+use Rattle.std.proofs.lemmas.Iterator.Search.{all_from_yields_List}
+use Rattle.words.specs.Lists.{all}
+use Rattle.pages.specs.Layout.{page_of, fill_of}
+use Rattle.image.specs.Read.{entry_at, entries_from}
+use Rattle.flags.specs.Pass.{flag_here}
 use Rattle.flags.proofs.flags_right.Goals as goal
 
-pub loop-i-init : goal.loop-i-init
-loop-i-init c =
-    let z : c.wide-n.result - 0 ≡ c.wide-n.result = omega arith in
-    (omega arith, c.wide-n.ensures ∙ c.fill.ensures, rw z)
-
-pub returns-then-not-flag_right : goal.returns-then-not-flag_right
-returns-then-not-flag_right c =
-    rw (← c.loop-i.invariant.1)
-    (flags_no _ _ (page_of c.args.img.now c.args.p) _ _ _ _ c.flag_right.ensures c.loop-i-test.true c.if-not-flag_right.true c.loop-i.invariant.2)
-
-pub loop-i-preserved : goal.loop-i-preserved
-loop-i-preserved c = (
-  omega arith,
-  c.loop-i.invariant.1,
-  flags_more _ _ (page_of c.args.img.now c.args.p) _ _ _ _ c.flag_right.ensures c.loop-i-test.true c.if-not-flag_right.false c.loop-i.invariant.2,
-)
+by_number : (lo hi : ℕ) (ws : List ℕ) (i n : ℕ) → list_all (λ k. flag_here lo hi (entry_at ws k)) (range_with_len i n) ≡ all (flag_here lo hi) (entries_from ws i n)
+unfolding all entries_from
+by_number lo hi ws i zero = refl
+by_number lo hi ws i (suc n) = rw (add-one i) (ap (λ b. flag_here lo hi (entry_at ws i) && b) (by_number lo hi ws (suc i) n))
 
 pub returns : goal.returns
 returns c =
-    rw (← c.loop-i.invariant.1) (flags_done _ _ (page_of c.args.img.now c.args.p) _ _ _ c.loop-i-test.false c.loop-i.invariant.2)
+    let ws = page_of c.args.img.now c.args.p in
+    all_from_yields_List (λ k. flag_here c.args.low c.args.high (entry_at ws k)) _ _ c.all.result c.all.ensures.ran
+    (YieldsList-from_range 0 (fill_of ws) (fill_of ws) (ap (λ n. record { start = 0; end = n }) c.fill-n.ensures) (omega arith)) (λ x b q k. search (rules, tests))
+    ∙ by_number c.args.low c.args.high ws 0 (fill_of ws)

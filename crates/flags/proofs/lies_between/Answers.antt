@@ -1,9 +1,13 @@
 -- `flags::lies_between` meets its contract: start, then end.
-use Rattle.flags.proofs.Cases.{between_not, between_is}
+use Rattle.std.proofs.Common.{arith}
+use Rattle.std.proofs.lemmas.Bool.Decides.{nat_tests}
+use Rattle.flags.specs.Pass.{between}
 use Rattle.flags.proofs.lies_between.Goals as goal
 
-pub returns-then-wide-low : goal.returns-then-wide-low
-returns-then-wide-low c = between_not _ _ _ _ c.wide.ensures c.if-wide-low.true
+pub returns-then-low-r : goal.returns-then-low-r
+unfolding between
+returns-then-low-r c = grind (arith, nat_tests)
 
-pub returns : goal.returns
-returns c = between_is _ _ _ _ _ c.wide.ensures c.wide-2.ensures c.if-wide-low.false
+pub returns-else-low-r : goal.returns-else-low-r
+unfolding between
+returns-else-low-r c = grind (arith, nat_tests)

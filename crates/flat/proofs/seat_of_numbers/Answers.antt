@@ -9,4 +9,4 @@ returns-then-opened-eq0 c = rw (c.closed_seat.ensures, eq-eqb _ _ c.if-opened-eq
 
 pub returns : goal.returns
 unfolding seat_of_numbers
-returns c = rw (c.kind_of-of.ensures, c.mark_of-mark.ensures, ne_eqb _ _ c.if-opened-eq0.false)
+returns c = rw (c.kind_of.ensures, c.mark_of.ensures, ne_eqb _ _ c.if-opened-eq0.false)

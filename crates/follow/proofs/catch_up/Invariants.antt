@@ -6,7 +6,7 @@ use Rattle.follow.specs.Places.{Coming}
 use Rattle.follow.proofs.catch_up.Given as goal
 
 abbrev pub invariant-loop-choice : goal.invariant-loop-choice
-invariant-loop-choice l = Coming l.outer (too_late l.choice l.p) l.p l.held (record { n = l.n; cur = l.cur })
+invariant-loop-choice l = Coming l.outer (too_late l.choice l.p) l.p l.held l.s
 
 abbrev pub decreases-loop-choice : goal.decreases-loop-choice
-decreases-loop-choice l = length (left l.outer l.cur)
+decreases-loop-choice l = length (left l.outer l.s.cur)

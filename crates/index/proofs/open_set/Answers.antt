@@ -12,16 +12,7 @@ returns-then-img-ne-IMAGE_WORDS c = open_image _ _ c.if-img-ne-IMAGE_WORDS.true
 pub returns-then-not-shares_fit : goal.returns-then-not-shares_fit
 returns-then-not-shares_fit c = open_shares _ c.args.shares c.if-img-ne-IMAGE_WORDS.false (sym c.shares_fit.ensures ∙ c.if-not-shares_fit.true)
 
-pub bounds-img-1 : goal.bounds-img-1
-bounds-img-1 c = simp length-set (omega arith)
-
-pub bounds-img-57 : goal.bounds-img-57
-bounds-img-57 c = simp length-set (omega arith)
-
-pub shape_of-img : goal.shape_of-img
-shape_of-img c = simp length-set (omega arith)
-
 pub returns : goal.returns
 returns c =
     open_done c.args.img.now _ c.args.shares (omega arith) (sym c.shares_fit.ensures ∙ c.if-not-shares_fit.false)
-    (image_opened c.args.img.now c.clear.new.img c.put_shares.new.img c.args.shares (omega arith) (search rules) c.clear.ensures c.put_shares.ensures)
+    (image_opened c.args.img.now c.fill.new.self c.args.shares c.copy_from_slice.new.self (omega arith) (c.fill.ensures.after (λ y e. e)) c.copy_from_slice.ensures.after)

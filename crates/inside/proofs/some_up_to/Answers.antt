@@ -5,4 +5,4 @@ use Rattle.inside.proofs.Walks.{some_wanted}
 use Rattle.inside.proofs.some_up_to.Goals as goal
 
 pub returns : goal.returns
-returns c = some_wanted _ _ _ _ (set_of c.args.img.now) _ _ refl refl c.walk-found.ensures.more
+returns c = some_wanted _ _ _ _ (set_of c.args.img.now) _ _ refl refl c.walk.ensures.more

@@ -7,32 +7,23 @@ use Rattle.inside.proofs.walk.Goals as goal
 pub loop-entry-init : goal.loop-entry-init
 loop-entry-init c = (omega arith, walk_start _ _ _ _ _ _ c.requires c.seek-cursor.ensures)
 
-pub step-step-requires : goal.step-step-requires
-step-step-requires c = faces_few _ c.loop-entry.invariant.1.faces
-
-pub shape_of-out-in_default : goal.shape_of-out-in_default
-shape_of-out-in_default c = c.loop-entry.invariant.1.long
+pub step-requires : goal.step-requires
+step-requires c = faces_few _ c.loop-entry.invariant.1.faces
 
 pub returns-in_default : goal.returns-in_default
-returns-in_default c = walk_end c.loop-entry.invariant.1 (sym c.step-step.ensures ∙ c.in_default.is) c.loop-entry.invariant.0
+returns-in_default c = walk_end c.loop-entry.invariant.1 (sym c.step.ensures ∙ c.in_default.is) c.loop-entry.invariant.0
 
-pub shape_of-out-then-end-r : goal.shape_of-out-then-end-r
-shape_of-out-then-end-r c = c.loop-entry.invariant.1.long
-
-pub returns-then-end-r : goal.returns-then-end-r
-returns-then-end-r c = walk_stop c.loop-entry.invariant.1 _ _ (sym c.step-step.ensures ∙ c.in-Next.is) c.if-end-r.true c.loop-entry.invariant.0
+pub returns-then-end-entry : goal.returns-then-end-entry
+returns-then-end-entry c = walk_stop c.loop-entry.invariant.1 _ _ (sym c.step.ensures ∙ c.in-Some.is) c.if-end-entry.true c.loop-entry.invariant.0
 
 pub take-count-requires : goal.take-count-requires
 take-count-requires c = omega (arith, c.loop-entry.invariant.1.long)
 
-pub shape_of-out-then-room-count : goal.shape_of-out-then-room-count
-shape_of-out-then-room-count c = (walk_on c.loop-entry.invariant.1 _ _ _ _ (sym c.step-step.ensures ∙ c.in-Next.is) c.if-end-r.false c.take-count.ensures).long
-
 pub returns-then-room-count : goal.returns-then-room-count
-returns-then-room-count c = walk_more (walk_on c.loop-entry.invariant.1 _ _ _ _ (sym c.step-step.ensures ∙ c.in-Next.is) c.if-end-r.false c.take-count.ensures) c.if-room-count.true
+returns-then-room-count c = walk_more (walk_on c.loop-entry.invariant.1 _ _ _ _ (sym c.step.ensures ∙ c.in-Some.is) c.if-end-entry.false c.take-count.ensures) c.if-room-count.true
 
 pub loop-entry-smaller : goal.loop-entry-smaller
-loop-entry-smaller c = faces_less _ _ _ _ _ c.loop-entry.invariant.1.faces (sym c.step-step.ensures ∙ c.in-Next.is)
+loop-entry-smaller c = faces_less _ _ _ _ _ c.loop-entry.invariant.1.faces (sym c.step.ensures ∙ c.in-Some.is)
 
 pub loop-entry-preserved : goal.loop-entry-preserved
-loop-entry-preserved c = (omega arith, walk_on c.loop-entry.invariant.1 _ _ _ _ (sym c.step-step.ensures ∙ c.in-Next.is) c.if-end-r.false c.take-count.ensures)
+loop-entry-preserved c = (omega arith, walk_on c.loop-entry.invariant.1 _ _ _ _ (sym c.step.ensures ∙ c.in-Some.is) c.if-end-entry.false c.take-count.ensures)

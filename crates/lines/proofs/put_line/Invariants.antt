@@ -1,10 +1,6 @@
--- `lines::put_line` meets its contract. The loop's invariant: with the numbers that are left to put, the buffer is as it should be. The measure is how many are left.
-use Prim.Native.Nat.{◌≤◌, ◌-◌}
+-- `lines::put_line` meets its contract. The loop's invariant: with the numbers that are left to put, the buffer is as it should be.
 use Rattle.lines.proofs.Putting.{Putting}
 use Rattle.lines.proofs.put_line.Given as goal
 
 abbrev pub invariant-loop-i : goal.invariant-loop-i
-invariant-loop-i l = (l.i ≤ l.k) × Putting l.initial.out l.at l.k l.numbers l.out l.place l.i
-
-abbrev pub decreases-loop-i : goal.decreases-loop-i
-decreases-loop-i l = l.k - l.i
+invariant-loop-i l = Putting l.initial.out l.at l.k l.numbers l.out l.place l.i

@@ -1,4 +1,4 @@
--- `lines::put_number` meets its contract. The loop's invariant: with the digits that are left to put, the buffer is as it should be. The measure is how many are left.
+-- `lines::put_number` meets its contract. The loop's invariant: with the digits that are left to put, the buffer is as it should be.
 use Prim.Native.Nat.{◌+◌, ◌≤◌, ◌-◌}
 use mathlib.Core.Path.{◌≡◌}
 use lib.ListN.{length}
@@ -9,6 +9,3 @@ use Rattle.lines.proofs.put_number.Given as goal
 
 abbrev pub invariant-loop-i : goal.invariant-loop-i
 invariant-loop-i l = (l.at ≤ l.i) × (l.i ≤ l.at + 10) × (length l.out ≡ length l.initial.out) × (sets l.out l.at (last_digits (l.i - l.at) l.rest) ≡ sets l.initial.out l.at (decimal l.n))
-
-abbrev pub decreases-loop-i : goal.decreases-loop-i
-decreases-loop-i l = l.i - l.at

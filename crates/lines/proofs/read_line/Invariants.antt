@@ -1,12 +1,8 @@
--- `lines::read_line` meets its contract. The loop's invariant: i numbers were read, and what is left of the line decides. The measure is how many are left to read.
-use Prim.Native.Nat.{◌≤◌, ◌-◌}
+-- `lines::read_line` meets its contract. The loop's invariant: i numbers were read, and what is left of the line decides.
 use mathlib.Core.Path.{◌≡◌}
 use lib.ListN.{length}
 use Rattle.lines.proofs.Lined.{Reading}
 use Rattle.lines.proofs.read_line.Given as goal
 
 abbrev pub invariant-loop-i : goal.invariant-loop-i
-invariant-loop-i l = (l.i ≤ l.k) × (length l.numbers ≡ 4) × Reading l.text l.at l.k l.i l.place l.numbers
-
-abbrev pub decreases-loop-i : goal.decreases-loop-i
-decreases-loop-i l = l.k - l.i
+invariant-loop-i l = (length l.numbers ≡ 4) × Reading l.text l.at l.k l.i l.next l.numbers

@@ -1,40 +1,74 @@
 use Prim.Native.Nat.{◌+◌, ◌-◌}
-use mathlib.Core.Path.{refl, sym, ◌∙◌}
+use mathlib.Core.Path.{◌≡◌, refl, sym, ap, ◌∙◌}
 use native.Mathlib.Omega.{arith}
 use Rattle.image.specs.Read.{set_of}
 use Rattle.form.specs.Form.{region_no, saved_line}
-use Rattle.form.proofs.Sections.{stands_on, section_goes, section_ends, items_go, items_end, items_none, heard_same}
+use Rattle.form.specs.Steps.{place_at, heard}
+use Rattle.regions.proofs.Refused.{refused_some}
+use Rattle.form.proofs.Sections.{stands_on, section_goes, section_ends, items_go, items_end, items_none}
 use Rattle.listing.proofs.Sections.{regions_refused}
 use Rattle.changes.proofs.Counts.{counts_none}
 use Rattle.listing.proofs.Copied.{same_long}
 use Rattle.listing.proofs.read_regions.Goals as goal
 
-pub read_count-c-requires : goal.read_count-c-requires
-read_count-c-requires c = c.requires.stands.1
+pub read_count-requires : goal.read_count-requires
+read_count-requires c = c.requires.stands.1
 
-pub returns-then-c-ne0 : goal.returns-then-c-ne0
-returns-then-c-ne0 c = regions_refused _ _ _ _ _ _ _ _ (section_ends region_no saved_line c.args.text.now 500 (set_of c.args.img.now) _ c.args.at _ _ c.read_count-c.ensures.number_is c.if-c-ne0.true ∙ heard_same _ _ _ _ _ c.refused_at.ensures.0 c.refused_at.ensures.1) (λ z. c.if-c-ne0.true (sym c.refused_at.ensures.0 ∙ z)) c.requires.img_empty.0
+pub returns-in-Err : goal.returns-in-Err
+returns-in-Err c =
+    let some = refused_some c.in-Err.refusal in
+    regions_refused _ _ _ _ _ _ _ _ (section_ends region_no saved_line c.args.text.now 500 (set_of c.args.img.now) _ c.args.at _ _ c.in-Err.ensures.number_is some) some c.requires.img_empty.0
 
-pub overflow_add-this : goal.overflow_add-this
-overflow_add-this c = omega (arith, c.requires.stands.0, c.requires.stands.1, c.requires.stands.2)
+pub loop-this-init : goal.loop-this-init
+loop-this-init c =
+    let r = c.in-Ok.ensures in
+    let n = c.in-Ok.c.count in
+    let all : c.args.line + 1 + n - (c.args.line + 1) ≡ n = omega arith in
+    let h = (r.count_is refl).0 in (
+      c.requires.img_empty.0,
+      counts_none _ c.requires.img_empty.1,
+      stands_on _ _ _ _ c.requires.stands (r.goes refl),
+      section_goes region_no saved_line _ 500 _ _ _ _ _ (sym r.number_is) (all ∙ h) (r.goes refl),
+      refl,
+    )
 
-pub loop-i-init : goal.loop-i-init
-loop-i-init c = (omega arith, c.requires.img_empty.0, counts_none _ c.requires.img_empty.1, stands_on _ _ _ _ c.requires.stands (c.read_count-c.ensures.goes c.if-c-ne0.false), section_goes region_no saved_line _ 500 _ _ _ _ _ (sym c.read_count-c.ensures.number_is ∙ c.if-c-ne0.false) (omega (arith, (c.read_count-c.ensures.count_is c.if-c-ne0.false).0)) (c.read_count-c.ensures.goes c.if-c-ne0.false), refl)
+pub take_region-requires : goal.take_region-requires
+take_region-requires c = let i = c.loop-this.invariant in record { at_in_bounds = i.2.1; counted = (i.0, i.1) }
 
-pub take_region-t-requires : goal.take_region-t-requires
-take_region-t-requires c = record { at_in_bounds = c.loop-i.invariant.3.1; counted = (c.loop-i.invariant.1, c.loop-i.invariant.2) }
+pub shape_of-img-in-Err-take_region : goal.shape_of-img-in-Err-take_region
+shape_of-img-in-Err-take_region c = same_long _ _ c.requires.img_empty.0 c.in-Err-take_region.ensures.stays_valid
 
-pub shape_of-img-then-t-ne0 : goal.shape_of-img-then-t-ne0
-shape_of-img-then-t-ne0 c = same_long _ _ c.requires.img_empty.0 c.take_region-t.ensures.stays_valid
+pub returns-in-Err-take_region : goal.returns-in-Err-take_region
+returns-in-Err-take_region c =
+    let l = c.loop-this in
+    let end = c.args.line + 1 + c.in-Ok.c.count in
+    let t = c.in-Err-take_region.ensures in
+    let some = refused_some c.in-Err-take_region.refusal in
+    regions_refused _ _ _ _ _ _ _ _
+    (l.invariant.3 ∙ items_end region_no saved_line c.args.text.now _ (end - (l.this + 1)) (set_of l.img) _ l.here _ _ (omega (arith, c.loop-this-test.true)) t.number_is some)
+    some t.stays_valid
 
-pub returns-then-t-ne0 : goal.returns-then-t-ne0
-returns-then-t-ne0 c = regions_refused _ _ _ _ _ _ _ _ (c.loop-i.invariant.4 ∙ items_end region_no saved_line c.args.text.now _ (c.read_count-c.result.count - (c.loop-i.i + 1)) (set_of c.loop-i.img) _ c.loop-i.here _ _ (omega (arith, c.loop-i-test.true)) c.take_region-t.ensures.number_is c.if-t-ne0.true ∙ heard_same _ _ _ _ _ c.refused_at-then-t-ne0.ensures.0 c.refused_at-then-t-ne0.ensures.1) (λ z. c.if-t-ne0.true (sym c.refused_at-then-t-ne0.ensures.0 ∙ z)) c.take_region-t.ensures.stays_valid
-
-pub overflow_add-this-in-loop-i : goal.overflow_add-this-in-loop-i
-overflow_add-this-in-loop-i c = omega (arith, c.loop-i.invariant.3.0, c.loop-i.invariant.3.1, c.loop-i.invariant.3.2)
-
-pub loop-i-preserved : goal.loop-i-preserved
-loop-i-preserved c = (omega (arith, c.loop-i-test.true), c.take_region-t.ensures.stays_valid, (c.take_region-t.ensures.goes c.if-t-ne0.false).2, stands_on _ _ _ _ c.loop-i.invariant.3 (c.take_region-t.ensures.goes c.if-t-ne0.false).0, c.loop-i.invariant.4 ∙ items_go region_no saved_line c.args.text.now _ _ (set_of c.loop-i.img) _ _ c.loop-i.here _ _ (omega (arith, c.loop-i-test.true)) c.take_region-t.ensures.number_is c.if-t-ne0.false (c.take_region-t.ensures.goes c.if-t-ne0.false).1 (c.take_region-t.ensures.goes c.if-t-ne0.false).0, same_long _ _ c.requires.img_empty.0 c.take_region-t.ensures.stays_valid)
+pub loop-this-preserved : goal.loop-this-preserved
+loop-this-preserved c =
+    let l = c.loop-this in
+    let i = l.invariant in
+    let t = c.in-Ok-take_region.ensures in
+    let (b, e, k) = t.goes refl in (
+      t.stays_valid,
+      k,
+      stands_on _ _ _ _ i.2 b,
+      i.3 ∙ items_go region_no saved_line c.args.text.now _ _ (set_of l.img) _ _ l.here _ _ (omega (arith, c.loop-this-test.true)) t.number_is refl e b,
+      same_long _ _ c.requires.img_empty.0 t.stays_valid,
+    )
 
 pub returns : goal.returns
-returns c = record { is = c.loop-i.invariant.4 ∙ items_none region_no saved_line c.args.text.now _ _ _ c.loop-i.this (omega (arith, c.loop-i-test.false)); goes = λ z. c.loop-i.invariant.3; stays_valid = c.loop-i.invariant.1 }
+returns c =
+    let l = c.loop-this in
+    let end = c.args.line + 1 + c.in-Ok.c.count in
+    let e : l.this ≡ end = omega (arith, c.loop-this-test.false) in
+    let i = l.invariant in
+    record {
+      is = i.3 ∙ items_none region_no saved_line c.args.text.now _ (set_of l.img) _ l.this (omega arith) ∙ ap (λ k. heard 0 k (set_of l.img, place_at c.args.text.now k l.here)) e;
+      goes = λ z. (i.2.0, i.2.1, omega (arith, i.2.2));
+      stays_valid = i.0;
+    }

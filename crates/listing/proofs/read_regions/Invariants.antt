@@ -1,5 +1,5 @@
 -- `listing::read_regions` meets its contract.
-use Prim.Native.Nat.{◌-◌, ◌≤◌}
+use Prim.Native.Nat.{◌-◌}
 use mathlib.Core.Path.{◌≡◌}
 use lib.Dec.{T}
 use lib.ListN.{length}
@@ -10,8 +10,5 @@ use Rattle.changes.specs.Counts.{Counted}
 use Rattle.form.specs.Steps.{place_at, Stands}
 use Rattle.listing.proofs.read_regions.Given as goal
 
-abbrev pub invariant-loop-i : goal.invariant-loop-i
-invariant-loop-i l = (l.i ≤ l.c.count) × T (valid l.img) × Counted l.held l.img × Stands l.text l.this l.here × (section region_no saved_line 500 (set_of l.initial.img) (place_at l.text l.line l.at) ≡ items region_no saved_line (l.c.count - l.i) (set_of l.img) (place_at l.text l.this l.here)) × (length l.img ≡ length l.initial.img)
-
-abbrev pub decreases-loop-i : goal.decreases-loop-i
-decreases-loop-i l = l.c.count - l.i
+abbrev pub invariant-loop-this : goal.invariant-loop-this
+invariant-loop-this l = T (valid l.img) × Counted l.held l.img × Stands l.text l.this l.here × (section region_no saved_line 500 (set_of l.initial.img) (place_at l.text l.line l.at) ≡ items region_no saved_line (l.end - l.this) (set_of l.img) (place_at l.text l.this l.here)) × (length l.img ≡ length l.initial.img)

@@ -1,13 +1,17 @@
 -- `listing::take_region` meets its contract.
-use Rattle.words.proofs.Tests.{not_true, not_false}
-use Rattle.listing.proofs.Regions.{takes_form, takes_saved}
+use Rattle.std.proofs.lemmas.Result.{err_from_is_err_and}
+use Rattle.regions.proofs.Refused.{refused_some}
+use Rattle.listing.proofs.Regions.{takes_form, takes_none, takes_saved}
 use Rattle.listing.proofs.take_region.Goals as goal
 
-pub returns-then-not-l : goal.returns-then-not-l
-returns-then-not-l c = takes_form _ _ c.args.img.now _ _ c.requires.counted.0 _ _ _ _ (not_true c.read_region-l.result.ok c.if-not-l.true) c.read_region-l.ensures c.not_taken.ensures.0
+pub returns-in_default : goal.returns-in_default
+returns-in_default c = takes_form _ _ c.args.img.now _ _ c.requires.counted.0 c.in_default.ensures
 
-pub save_kept-kept-requires : goal.save_kept-kept-requires
-save_kept-kept-requires c = c.requires.counted
+pub returns-in_err-save_kept : goal.returns-in_err-save_kept
+returns-in_err-save_kept c =
+    let p = err_from_is_err_and c.from_residual.result c.from_residual.ensures.1 in
+    let (s, v, k) = c.in_err-save_kept.ensures.saves in
+    rw (p.1, p.2) (takes_none _ _ c.args.img.now _ _ c.in-Some.ensures _ c.account_of-account.ensures _ _ _ _ s v (refused_some c.in_err-save_kept.field-0.0))
 
 pub returns : goal.returns
-returns c = takes_saved _ _ c.args.img.now _ _ c.requires.counted.0 _ (not_false c.read_region-l.result.ok c.if-not-l.false) c.read_region-l.ensures _ c.account_of-account.ensures _ _ _ c.save_kept-kept.ensures.0 c.save_kept-kept.ensures.1 c.save_kept-kept.ensures.2
+returns c = let (s, v, k) = c.in_ok-save_kept.ensures.saves in takes_saved _ _ c.args.img.now _ _ c.in-Some.ensures _ c.account_of-account.ensures _ _ s v k

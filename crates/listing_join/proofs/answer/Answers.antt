@@ -4,4 +4,4 @@ use borrow.Author.Rules.{rules}
 use Rattle.listing_join.proofs.answer.Goals as goal
 
 pub print_join-requires : goal.print_join-requires
-print_join-requires g c = let d = c.read_listing-heard.ensures.done (search rules) in (T_of d.0, T_of d.1)
+print_join-requires g c = let d = c.in-Ok.ensures.done (search rules) in (T_of d.0, T_of d.1)

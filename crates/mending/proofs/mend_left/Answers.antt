@@ -1,6 +1,6 @@
 -- `mend_left` joins the thin left child with its right neighbour, or has that lend.
 use native.Mathlib.Omega.{arith}
-use Rattle.mending.proofs.Couples.{pair_small, inner_most, left_few, left_joins, left_joined, right_lends, left_takes, left_took}
+use Rattle.mending.proofs.Couples.{pair_small, left_joins, left_joined, right_lends, left_takes, left_took}
 use Rattle.mending.proofs.mend_left.Goals as goal
 
 pub overflow_add-j : goal.overflow_add-j
@@ -9,26 +9,22 @@ overflow_add-j c = omega (arith, pair_small c.requires.1.couple)
 pub child_fill-n-requires : goal.child_fill-n-requires
 child_fill-n-requires c = omega (arith, pair_small c.requires.1.couple)
 
-pub overflow_add-n : goal.overflow_add-n
-overflow_add-n c = omega (arith, left_few c.requires.1 _ c.child_fill-n.ensures)
-
 pub merge_pages-requires : goal.merge_pages-requires
-merge_pages-requires c = (c.requires.0, left_joins c.requires.1 _ c.child_fill-n.ensures c.if-n-inner-le5.true)
+merge_pages-requires c = (c.requires.0, left_joins c.requires.1 _ c.child_fill-n.ensures (omega (arith, c.most_joined.ensures, c.if-n-most_joined.true)))
 
-pub overflow_add-j-else-n-inner-le5 : goal.overflow_add-j-else-n-inner-le5
-overflow_add-j-else-n-inner-le5 c = omega (arith, pair_small c.requires.1.couple)
-
-pub overflow_sub-inner : goal.overflow_sub-inner
-overflow_sub-inner c = inner_most c.requires.1
+pub overflow_add-j-else-n-most_joined : goal.overflow_add-j-else-n-most_joined
+overflow_add-j-else-n-most_joined c = omega (arith, pair_small c.requires.1.couple)
 
 pub split_page-requires : goal.split_page-requires
-split_page-requires c = (c.requires.0, right_lends c.requires.1 _ c.child_fill-n.ensures c.if-n-inner-le5.false)
+split_page-requires c = (c.requires.0, right_lends c.requires.1 _ c.child_fill-n.ensures _ c.lent.ensures (omega (arith, c.most_joined.ensures, c.if-n-most_joined.false)))
 
-pub merge_pages-requires-else-n-inner-le5 : goal.merge_pages-requires-else-n-inner-le5
-merge_pages-requires-else-n-inner-le5 c = (c.requires.0, left_takes c.requires.1 _ c.child_fill-n.ensures _ c.if-n-inner-le5.false c.split_page.ensures)
+pub merge_pages-requires-else-n-most_joined : goal.merge_pages-requires-else-n-most_joined
+merge_pages-requires-else-n-most_joined c =
+    (c.requires.0, left_takes c.requires.1 _ c.child_fill-n.ensures _ _ c.lent.ensures (omega (arith, c.most_joined.ensures, c.if-n-most_joined.false)) c.split_page.ensures)
 
-pub returns-then-n-inner-le5 : goal.returns-then-n-inner-le5
-returns-then-n-inner-le5 c = λ s. left_joined s _ c.child_fill-n.ensures c.if-n-inner-le5.true c.merge_pages.ensures
+pub returns-then-n-most_joined : goal.returns-then-n-most_joined
+returns-then-n-most_joined c = λ s. left_joined s _ c.child_fill-n.ensures (omega (arith, c.most_joined.ensures, c.if-n-most_joined.true)) c.merge_pages.ensures
 
-pub returns-else-n-inner-le5 : goal.returns-else-n-inner-le5
-returns-else-n-inner-le5 c = λ s. left_took s _ c.child_fill-n.ensures _ c.if-n-inner-le5.false c.split_page.ensures c.merge_pages-else-n-inner-le5.ensures
+pub returns-else-n-most_joined : goal.returns-else-n-most_joined
+returns-else-n-most_joined c =
+    λ s. left_took s _ c.child_fill-n.ensures _ _ c.lent.ensures (omega (arith, c.most_joined.ensures, c.if-n-most_joined.false)) c.split_page.ensures c.merge_pages-else-n-most_joined.ensures

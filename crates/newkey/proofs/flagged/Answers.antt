@@ -1,11 +1,10 @@
-use Prim.Native.Nat.{◌+◌, ◌-◌, ◌<◌}
+use Prim.Native.Nat.{◌+◌, ◌<◌}
 use mathlib.Core.Path.{◌≡◌, sym, ap, ◌∙◌, subst}
 use native.Mathlib.Omega.{arith}
 use Rattle.regions.specs.Positions.{stabs}
 use Rattle.pages.specs.Layout.{fill_of}
 use Rattle.newkey.specs.Moves.{Flagged}
 use Rattle.newkey.proofs.Flagging.{flag_start, flag_pass, flag_set}
-use Prim.Native.Nat.{◌-◌}
 use mathlib.Core.Path.{sym, ap, ◌∙◌, subst}
 use Rattle.newkey.proofs.flagged.Goals as goal
 use Rattle.newkey.proofs.flagged.Goals.{then-stabs, else-stabs}

@@ -6,6 +6,3 @@ use Rattle.newkey.proofs.gather.Given as goal
 
 abbrev pub invariant-loop-j : goal.invariant-loop-j
 invariant-loop-j l = (l.j ≤ l.n) × Gathered l.initial.img l.img l.k (entries_from l.leaf l.j (l.n - l.j)) l.key
-
-abbrev pub decreases-loop-j : goal.decreases-loop-j
-decreases-loop-j l = l.j

@@ -1,4 +1,5 @@
 -- `newpages::inner_joined` meets its contract: the calls leave the words that the law speaks of.
+use mathlib.Core.Path.{refl}
 use borrow.Author.Rules.{rules}
 use native.Mathlib.Omega.{arith}
 use Prim.Native.Nat.{◌+◌}
@@ -8,8 +9,6 @@ use Rattle.newpages.proofs.inner_joined.Goals as goal
 
 pub returns : goal.returns
 returns c =
-    let w = c.wide-m in
-    let v = c.wide-n in
     rw (c.headed.ensures, c.copied-moved.ensures, c.copied-keyed.ensures, c.put_key-put.ensures, c.child_word-b.ensures, c.key_word-a.ensures)
-    (inner_joined_is c.args.left c.args.right (search rules) (search rules) w.result v.result (fill_of c.args.left + fill_of c.args.right + 1) c.args.k w.ensures v.ensures
+    (inner_joined_is c.args.left c.args.right (search rules) (search rules) (fill_of c.args.left) (fill_of c.args.right) (fill_of c.args.left + fill_of c.args.right + 1) c.args.k refl refl
     c.requires (omega arith))

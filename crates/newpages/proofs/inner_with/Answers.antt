@@ -1,4 +1,5 @@
 -- `newpages::inner_with` meets its contract: the calls leave the words that the law speaks of.
+use mathlib.Core.Path.{refl}
 use borrow.Author.Rules.{rules}
 use native.Mathlib.Omega.{arith}
 use Prim.Native.Nat.{◌+◌}
@@ -8,6 +9,5 @@ use Rattle.newpages.proofs.inner_with.Goals as goal
 
 pub returns : goal.returns
 returns c =
-    let w = c.wide-n in
     rw (c.headed.ensures, c.copied-moved.ensures, c.copied-keyed.ensures, c.put_key-put.ensures, c.child_word-b.ensures, c.key_word-a.ensures)
-    (inner_with_is c.args.ws (search rules) c.args.i w.result (fill_of c.args.ws + 1) c.args.k c.args.child w.ensures c.requires.0 c.requires.1 (omega arith))
+    (inner_with_is c.args.ws (search rules) c.args.i (fill_of c.args.ws) (fill_of c.args.ws + 1) c.args.k c.args.child refl c.requires.0 c.requires.1 (omega arith))

@@ -8,6 +8,5 @@ use Rattle.newpages.proofs.inner_without.Goals as goal
 
 pub returns : goal.returns
 returns c =
-    let w = c.wide in
     rw (c.headed.ensures, c.copied-moved.ensures, c.copied-keyed.ensures, c.child_word-b.ensures, c.key_word-a.ensures)
-    (inner_without_is c.args.ws (search rules) c.args.i (w.result - (c.args.i + 1)) (fill_of c.args.ws - 1) (omega (arith, w.ensures)) c.requires.0 c.requires.1 (omega arith))
+    (inner_without_is c.args.ws (search rules) c.args.i (fill_of c.args.ws - (c.args.i + 1)) (fill_of c.args.ws - 1) (omega arith) c.requires.0 c.requires.1 (omega arith))

@@ -1,4 +1,5 @@
 -- `newpages::leaf_without` meets its contract: the calls leave the words that the law speaks of.
+use mathlib.Core.Path.{refl}
 use borrow.Author.Rules.{rules}
 use native.Mathlib.Omega.{arith}
 use Prim.Native.Nat.{◌-◌}
@@ -8,6 +9,5 @@ use Rattle.newpages.proofs.leaf_without.Goals as goal
 
 pub returns : goal.returns
 returns c =
-    let w = c.wide in
     rw (c.headed.ensures, c.copied-moved.ensures, c.entry_word-a.ensures)
-    (leaf_without_is c.args.ws (search rules) c.args.i w.result (fill_of c.args.ws - 1) w.ensures c.requires.0 c.requires.1 (omega arith))
+    (leaf_without_is c.args.ws (search rules) c.args.i (fill_of c.args.ws) (fill_of c.args.ws - 1) refl c.requires.0 c.requires.1 (omega arith))

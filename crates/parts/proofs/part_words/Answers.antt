@@ -1,11 +1,10 @@
--- `parts::part_words` meets its contract: by the number; where it is 0, the words are there.
+-- `parts::part_words` meets its contract: the words are there.
 -- a part that is borrowed from w on stands w elements of 4 bytes behind the slice's place: at its word w
 use mathlib.Core.Path.{◌≡◌, ap}
 use mathlib.Core.List.{List}
 use Prim.Native.Nat.{ℕ, ◌+◌, ◌*◌, ◌-◌}
 use native.Mathlib.Omega.{arith}
 use borrow.Author.Rules.{rules}
-use borrow.Author.Tests.{eq-eqb, ne_eqb}
 use denote.Ref.{Bor}
 use Rattle.parts.specs.Lent.{word_at}
 use Rattle.parts.proofs.part_words.Goals as goal
@@ -14,13 +13,10 @@ placed : (s : Bor (List ℕ)) (w : ℕ) → (s.ref_ptr.0, w * 4 + s.ref_ptr.1) �
 placed s w = ap (λ (k : ℕ). (s.ref_ptr.0, k)) (omega arith)
 
 pub slice_bounds-result-end : goal.slice_bounds-result-end
-slice_bounds-result-end c = let p = c.requires c.if-number-eq0.true in search rules
-
-pub returns-then-number-eq0 : goal.returns-then-number-eq0
-returns-then-number-eq0 c =
-    let a = c.args in
-    let h : (128 * a.i + 4 * a.count) - 128 * a.i ≡ 4 * a.count = omega arith in
-    record { words_are = simp (eq-eqb _ _ c.if-number-eq0.true, h); place_is = λ _. placed a.buffer (128 * a.i) }
+slice_bounds-result-end c = let p = c.requires in search rules
 
 pub returns : goal.returns
-returns c = record { words_are = simp (ne_eqb _ _ c.if-number-eq0.false); place_is = λ z. absurd (c.if-number-eq0.false z) }
+returns c =
+    let a = c.args in
+    let h : (128 * a.i + 4 * a.count) - 128 * a.i ≡ 4 * a.count = omega arith in
+    record { words_are = simp (h); place_is = placed a.buffer (128 * a.i) }

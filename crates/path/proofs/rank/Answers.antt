@@ -1,18 +1,14 @@
-use Prim.Native.Nat.{◌-◌}
+use Rattle.std.proofs.Common.{rules, tests}
+use Rattle.std.specs.Prelude.{◌<◌, ◌≤◌}
 use mathlib.Core.Path.{◌∙◌}
-use Rattle.path.proofs.Ranks.{count_start, count_found, count_on, count_end}
-use Prim.Native.Nat.{◌-◌}
-use mathlib.Core.Path.{◌∙◌}
+use lib.ListN.{get_or}
+use Rattle.std.proofs.lemmas.Iterator.{first_from_Range}
+use Rattle.pages.specs.Layout.{page_of, key_word}
+use Rattle.path.proofs.Ranks.{rank_first}
 use Rattle.path.proofs.rank.Goals as goal
 
-pub loop-i-init : goal.loop-i-init
-loop-i-init c = count_start _ _ _ (c.wide-n.ensures ∙ c.fill.ensures) c.requires
-
-pub returns-then-x-key_number : goal.returns-then-x-key_number
-returns-then-x-key_number c = count_found _ _ _ _ _ c.loop-i.invariant c.loop-i-test.true c.key_number.ensures c.if-x-key_number.true
-
-pub loop-i-preserved : goal.loop-i-preserved
-loop-i-preserved c = count_on _ _ _ _ _ c.loop-i.invariant c.loop-i-test.true c.key_number.ensures c.if-x-key_number.false
-
 pub returns : goal.returns
-returns c = count_end _ _ _ _ c.loop-i.invariant c.loop-i-test.false
+returns c =
+    let ws = page_of c.args.img.now c.args.page in
+    c.unwrap_or.ensures ∙ rank_first ws c.args.x _ _ c.fill-n.ensures
+    (first_from_Range _ _ _ _ (λ i. c.args.x < get_or ws (key_word i) 0) (λ i. get_or ws (key_word i) 0 ≤ c.args.x) c.find.ensures.ran (λ x q k. search (rules, tests)) (λ x q k. (search rules, search (rules, tests))))

@@ -1,5 +1,4 @@
 use borrow.Author.Rules.{rules}
-use Prim.Native.Nat.{◌-◌}
 use native.Mathlib.Numerals.{add-one}
 use native.Mathlib.Omega.{arith}
 use mathlib.Core.Path.{◌≡◌}
@@ -7,16 +6,16 @@ use Rattle.printout.proofs.Texts.{words_long, put_none, put_more, put_long}
 use Rattle.printout.proofs.put_pairs.Goals as goal
 
 pub loop-i-init : goal.loop-i-init
-loop-i-init c = (search rules, put_none _ _)
+loop-i-init c = put_none _ _
 
 pub put_line-at-requires : goal.put_line-at-requires
-put_line-at-requires c = let p = c.loop-i.invariant.1 in let h = c.requires in let l = put_long _ _ _ _ _ p in let few = words_long c.loop-i.i c.args.words.now (search rules) in let e = p.ends in (search rules, search rules, omega arith)
+put_line-at-requires c = let p = c.loop-i.invariant in let h = c.requires in let l = put_long _ _ _ _ _ p in let few = words_long c.loop-i.i c.args.words.now (search rules) in let e = p.ends in (search rules, search rules, omega arith)
 
 pub loop-i-preserved : goal.loop-i-preserved
-loop-i-preserved c = (search rules, rw add-one (put_more _ _ _ _ _ _ _ _ c.loop-i.invariant.1 c.pair_at.ensures c.put_line-at.ensures))
+loop-i-preserved c = rw add-one (put_more _ _ _ _ _ _ _ _ c.loop-i.invariant c.pair_at.ensures c.put_line-at.ensures)
 
 pub shape_of-out : goal.shape_of-out
-shape_of-out c = put_long _ _ _ _ _ c.loop-i.invariant.1
+shape_of-out c = put_long _ _ _ _ _ c.loop-i.invariant
 
 pub returns : goal.returns
-returns c = let p = c.loop-i.invariant.1 in let e : c.loop-i.i ≡ c.args.n = omega arith in rw e at p
+returns c = let p = c.loop-i.invariant in let e : c.loop-i.i ≡ c.args.n = omega arith in rw e at p

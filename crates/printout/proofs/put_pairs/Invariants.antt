@@ -1,10 +1,6 @@
 -- `printout::put_pairs` meets its contract. The invariant: the text of the pairs before i stands in the buffer, and `at` is behind it.
-use Prim.Native.Nat.{◌-◌, ◌≤◌}
 use Rattle.printout.specs.Printed.{PutsPairs}
 use Rattle.printout.proofs.put_pairs.Given as goal
 
 abbrev pub invariant-loop-i : goal.invariant-loop-i
-invariant-loop-i l = (l.i ≤ l.n) × PutsPairs l.words l.i l.initial.out l.at l.out
-
-abbrev pub decreases-loop-i : goal.decreases-loop-i
-decreases-loop-i l = l.n - l.i
+invariant-loop-i l = PutsPairs l.words l.i l.initial.out l.at l.out

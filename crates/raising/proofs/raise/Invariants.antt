@@ -6,6 +6,3 @@ use Rattle.raising.proofs.raise.Given as goal
 
 abbrev pub invariant-loop-j : goal.invariant-loop-j
 invariant-loop-j l = (l.j ≤ l.c) × ((h : ℕ) (g : RaiseReady l.initial.img l.page l.c h) → Rising l.initial.img l.page l.c h g l.img l.key l.ws l.j)
-
-abbrev pub decreases-loop-j : goal.decreases-loop-j
-decreases-loop-j l = l.j

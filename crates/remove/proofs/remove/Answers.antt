@@ -17,7 +17,9 @@ pub returns-then-d-eq0 : goal.returns-then-d-eq0
 returns-then-d-eq0 c = leaf_done _ c.requires.1 (λ i. omega (arith, c.slice_known-1.given i)) _ _ c.requires.2 _ c.descend-path.ensures _ c.take_entry.ensures _ c.depth-d.ensures c.if-d-eq0.true
 
 pub mend-requires : goal.mend-requires
-mend-requires c = mend_asks _ c.requires.1 (λ i. omega (arith, c.slice_known-1.given i)) _ _ c.requires.2 _ c.descend-path.ensures _ c.take_entry.ensures _ c.depth-d.ensures c.if-d-eq0.false
+mend-requires c =
+    let asked = mend_asks _ c.requires.1 (λ i. omega (arith, c.slice_known-1.given i)) _ _ c.requires.2 _ c.descend-path.ensures _ c.take_entry.ensures _ c.depth-d.ensures c.if-d-eq0.false in
+    (omega (arith, asked.0), asked.1, asked.2)
 
 pub shrink_root-requires : goal.shrink_root-requires
 shrink_root-requires c = shrink_asks _ c.requires.1 (λ i. omega (arith, c.slice_known-1.given i)) _ _ c.requires.2 _ c.descend-path.ensures _ c.take_entry.ensures _ c.depth-d.ensures c.if-d-eq0.false _ c.mend.ensures

@@ -1,7 +1,5 @@
 -- `search::parent` meets its contract: level 0 has none; else the last one taken is the only one.
-use mathlib.Core.Path.{ap, sym, ◌∙◌}
 use Rattle.image.specs.Read.{set_of}
-use Rattle.tally.specs.Tallies.{found_list}
 use Rattle.path.proofs.Ways.{descend_asks}
 use Rattle.search.proofs.Tops.{parent_found_lem, parent_none}
 use Rattle.search.proofs.parent.Goals as goal
@@ -12,8 +10,5 @@ returns-then-level-eq0 c = parent_none _ _ (set_of c.args.img.now) c.if-level-eq
 pub descend-requires : goal.descend-requires
 descend-requires c = let asked = descend_asks _ c.requires in record { bound = asked.0; fills = asked.1 }
 
-pub returns-in_default : goal.returns-in_default
-returns-in_default c = ap found_list (sym c.in_default.is) ∙ parent_found_lem c.args.img.now _ _ c.requires c.search-t.ensures
-
 pub returns : goal.returns
-returns c = ap found_list (sym c.in-At.is) ∙ parent_found_lem c.args.img.now _ _ c.requires c.search-t.ensures
+returns c = parent_found_lem c.args.img.now _ _ c.requires c.search-t.ensures

@@ -10,20 +10,20 @@ loop-choice-init c = c.requires.before
 pub start-requires : goal.start-requires
 start-requires c = faces_few _ c.loop-choice.invariant.faces
 
-pub step-step-requires : goal.step-step-requires
-step-step-requires c = faces_few _ c.loop-choice.invariant.faces
+pub step-requires : goal.step-requires
+step-requires c = faces_few _ c.loop-choice.invariant.faces
 
 pub returns-in_default : goal.returns-in_default
-returns-in_default c = forward_end c.loop-choice.invariant (set_rises _ c.requires.img_valid) (sym c.step-step.ensures ∙ c.in_default.is)
+returns-in_default c = forward_end c.loop-choice.invariant (set_rises _ c.requires.img_valid) (sym c.step.ensures ∙ c.in_default.is)
 
 pub returns-then-is_far : goal.returns-then-is_far
 returns-then-is_far c = c.seek_held.ensures
 
 pub loop-choice-smaller : goal.loop-choice-smaller
-loop-choice-smaller c = faces_less _ _ _ _ _ c.loop-choice.invariant.faces (sym c.step-step.ensures ∙ c.in-Next.is)
+loop-choice-smaller c = faces_less _ _ _ _ _ c.loop-choice.invariant.faces (sym c.step.ensures ∙ c.in-Some.is)
 
 pub loop-choice-preserved : goal.loop-choice-preserved
-loop-choice-preserved c = forward_on c.loop-choice.invariant (set_rises _ c.requires.img_valid) _ _ (sym c.step-step.ensures ∙ c.in-Next.is) (not_held _ _ _ _ _ c.start.ensures c.in_time.ensures (c.loop-choice-test.true))
+loop-choice-preserved c = forward_on c.loop-choice.invariant (set_rises _ c.requires.img_valid) _ _ (sym c.step.ensures ∙ c.in-Some.is) (not_held _ _ _ _ _ c.start.ensures c.in_time.ensures (c.loop-choice-test.true))
 
-pub returns : goal.returns
-returns c = forward_there c.loop-choice.invariant (set_rises _ c.requires.img_valid) (may_hold _ _ _ _ _ c.start.ensures c.in_time.ensures (c.loop-choice-test.false))
+pub returns-after-loop-choice : goal.returns-after-loop-choice
+returns-after-loop-choice c = forward_there c.loop-choice.invariant (set_rises _ c.requires.img_valid) (may_hold _ _ _ _ _ c.start.ensures c.in_time.ensures (c.loop-choice-test.false))

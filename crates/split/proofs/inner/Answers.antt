@@ -2,7 +2,7 @@
 use native.Mathlib.Omega.{arith}
 use Prim.Native.Nat.{suc}
 use mathlib.Core.Path.{◌∙◌}
-use Rattle.split.proofs.Seen.{q_range, i_fits, free_page_lem}
+use Rattle.split.proofs.Seen.{q_range, i_fits, first_is_free}
 use Rattle.split.proofs.LeafCalls.{child_range, store_asks}
 use Rattle.split.proofs.InnerCalls.{page_fits, child_fits, raise_asks, risen_fits, risen_long, key_asks, inner_split}
 use Rattle.split.proofs.inner.Goals as goal
@@ -63,7 +63,7 @@ store_split-requires c =
     let g = c.raise-risen.ensures in
     let e = c.enter_key-above.ensures (suc c.requires.1.0) (key_asks s page.result place.result child.result page.ensures place.ensures child.ensures g) in
     store_asks s.child_at page.result place.result page.ensures place.ensures c.enter_key-above.new.img _ (e.touched.long ∙ risen_long s page.result place.result child.result page.ensures place.ensures child.ensures g ∙ s.child_at.stands.long)
-    (free_page_lem s.child_at _ c.first_free_page-r.ensures s.free_page_lem)
+    (first_is_free s.child_at _ c.first_free_page-r.ensures s.free_page)
 
 pub returns : goal.returns
 returns c = λ h s.

@@ -2,7 +2,7 @@
 -- Of the key, only the end asks that it is the one of rule 2; all else asks that it separates the two parts.
 use native.Mathlib.Omega.{arith}
 use mathlib.Core.Path.{◌∙◌}
-use Rattle.split.proofs.Seen.{q_range, i_fits, free_page_lem}
+use Rattle.split.proofs.Seen.{q_range, i_fits, first_is_free}
 use Rattle.split.proofs.LeafCalls.{child_range, store_asks, above_fits, cut_asks, key_lies, flag_asks, gather_asks, enter_asks, leaf_split}
 use Rattle.split.proofs.leaf.Goals as goal
 
@@ -104,7 +104,7 @@ store_split-requires c =
     let g = c.gather-key.ensures in
     let e = c.enter_key-above.ensures 0 (enter_asks s page.result child.result leaf.result page.ensures child.ensures leaf.ensures k.result (omega arith, omega arith) g) in
     store_asks s.child_at page.result child.result page.ensures child.ensures c.enter_key-above.new.img _ (e.touched.long ∙ g.touched.long ∙ s.child_at.stands.long)
-    (free_page_lem s.child_at _ c.first_free_page-r.ensures s.free_page_lem)
+    (first_is_free s.child_at _ c.first_free_page-r.ensures s.free_page)
 
 pub returns : goal.returns
 returns c = λ s.

@@ -6,7 +6,7 @@ pub returns-then-none_past : goal.returns-then-none_past
 returns-then-none_past c = paired_nothing (c.none_past.ensures c.if-none_past.true)
 
 pub returns-then-all : goal.returns-then-all
-returns-then-all c = rw c.if-all.true c.pair_all.ensures
+returns-then-all c = rw c.if-all.true c.pair_each.ensures
 
-pub returns : goal.returns
-returns c = rw c.if-all.false c.pair_fitting.ensures
+pub returns-else-all : goal.returns-else-all
+returns-else-all c = rw c.if-all.false c.pair_each-else-all.ensures

@@ -1,5 +1,4 @@
 use borrow.Author.Rules.{rules}
-use Prim.Native.Nat.{◌-◌}
 use native.Mathlib.Omega.{arith}
 use Rattle.pages.specs.Layout.{page_used}
 use Rattle.store.proofs.Turns.{page_free, page_taken, used_more, found_free, found_none}

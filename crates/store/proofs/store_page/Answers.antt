@@ -1,23 +1,11 @@
-use borrow.Author.Rules.{rules}
-use Prim.Native.Nat.{◌-◌}
-use mathlib.Core.Path.{refl, ◌∙◌}
-use native.Mathlib.Omega.{arith}
-use lib.ListN.{length-set}
-use Rattle.store.proofs.Turns.{store_start, store_turn, store_done}
+use Rattle.std.proofs.Common.{rules, ◌+◌, ◌-◌, ap, ◌∙◌}
+use Rattle.std.proofs.lemmas.List.Edits.{sets}
+use Rattle.pagewords.proofs.Runs.{put_mid_sets}
+use Rattle.store.specs.Store.{put_page}
 use Rattle.store.proofs.store_page.Goals as goal
 
-pub loop-i-init : goal.loop-i-init
-loop-i-init c = (omega arith, refl, store_start c.args.img.now c.args.ws _)
-
-pub loop-i-preserved : goal.loop-i-preserved
-loop-i-preserved c =
-    let q = c.loop-i in
-    (omega arith, simp length-set q.invariant.1, store_turn q.img c.args.ws _ q.i _ (search rules) refl ∙ q.invariant.2)
-
-pub shape_of-img : goal.shape_of-img
-shape_of-img c = c.loop-i.invariant.1
-
 pub returns : goal.returns
+unfolding put_page
 returns c =
-    let q = c.loop-i in
-    store_done q.img c.args.img.now c.args.ws _ _ q.i (search rules) c.page_at-b.ensures q.invariant.2
+    let b = c.page_at-b.result in
+    put_mid_sets b (b + 57 - b) c.args.img.now _ c.args.ws c.copy_from_slice.ensures.after (search rules) (search rules) ∙ ap (λ j. sets c.args.img.now j c.args.ws) c.page_at-b.ensures

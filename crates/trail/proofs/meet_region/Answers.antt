@@ -1,10 +1,12 @@
 -- `trail::meet_region` meets its contract: by whether the region is at home.
-use mathlib.Core.Path.{sym, ◌∙◌}
-use Rattle.trail.proofs.Cases.{meet_off, meet_on}
+use Rattle.std.proofs.Common.{rules}
+use Rattle.trail.specs.Pass.{meet}
 use Rattle.trail.proofs.meet_region.Goals as goal
 
-pub returns-then-not-at_home : goal.returns-then-not-at_home
-returns-then-not-at_home c = meet_off _ _ _ _ (sym c.at_home.ensures ∙ c.if-not-at_home.true)
+pub returns-then-at_home : goal.returns-then-at_home
+unfolding meet
+returns-then-at_home c = search rules
 
-pub returns : goal.returns
-returns c = meet_on _ _ _ _ _ (sym c.at_home.ensures ∙ c.if-not-at_home.false) c.take_record.ensures
+pub returns-else-at_home : goal.returns-else-at_home
+unfolding meet
+returns-else-at_home c = search rules
