@@ -32,7 +32,7 @@ pub wide : (n : ℕ) → n < 2 ^ 32 → n < 2 ^ 64
 wide n h = omega arith
 
 -- where a part is not refused, its words are there
-pub part_there : (ds : List Seat) (b : List ℕ) (i n : ℕ) → part_no ds b i n ≡ 0 → PartThere b i n
+pub part_there : (ds : List Seat) (b : List ℕ) (i n : ℕ) → PartThere (part_no ds b i n) b i n
 part_there ds b i n e =
     let m = part_done ds b i n e in
     let f : seat_fits (seat_at ds i) ≡ true = each_ok ds i m.round.fits (let h = m.seat in omega arith) in

@@ -74,8 +74,7 @@ pub fn part<'a>(desk: &[Seat], buffer: &'a [u32], i: u32, count: u32) -> Result<
     ensures number { PartNumber desk.now buffer.now i count (number_told result) }
     ensures lent { IfOk result (λ r. LendsPart desk.now buffer.entry i count r) }
 {
-    asks_part(desk, buffer, i, count)?;
-    Ok(parts::part_words(buffer, i, count))
+    parts::part_words(buffer, asks_part(desk, buffer, i, count), i, count)
 }
 
 // Both images, tested once a round.

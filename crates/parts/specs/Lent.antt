@@ -14,6 +14,6 @@ pub record PartOf (buffer : Bor (List ℕ)) (i n : ℕ) (r : Bor (List ℕ)) : T
   pub words_are : r.now ≡ take (4 * n) (drop (seat_word i) buffer.now)
   pub place_is : r.ref_ptr ≡ word_at buffer (seat_word i)
 
--- those words are there
-abbrev pub PartThere : List ℕ → ℕ → ℕ → Type 0
-PartThere b i n = (length b ≡ buffer_words) × (i ≤ last_seat) × (n ≤ most_a_round)
+-- where the number is 0, those words are there
+abbrev pub PartThere : ℕ → List ℕ → ℕ → ℕ → Type 0
+PartThere number b i n = number ≡ 0 → (length b ≡ buffer_words) × (i ≤ last_seat) × (n ≤ most_a_round)
