@@ -1,5 +1,5 @@
 // Plays scripts of public calls and prints their answers. Each argument names a script, played from a fresh store; without arguments standard input is one.
-// A script is at most 1,048,576 bytes, one command a line; `script.rt` has the table of the commands. At a line that is none, `script N` is printed, N its number
+// A script is at most 1,048,576 bytes, one command a line; the crate `script` has the commands. At a line that is none, `script N` is printed, N its number
 // from 1, and the script ends there; of one that is too long only `script 0`.
 #![tactic(auto)]
 
