@@ -51,6 +51,9 @@ leaf_listed w p = sym (listed_leaf list_regions w p)
 pub leaf_all : (w : List ℕ) (p n : ℕ) (s : Passed) → n ≡ fill_of (page_of w p) → pass (leaf_regions (page_of w p) 0 (n - 0)) s ≡ pass (regions_at w 0 p) s
 leaf_all w p n s en = let z : n - 0 ≡ fill_of (page_of w p) = omega arith in rw z (ap (λ (l : List Region). pass l s) (leaf_listed w p))
 
+pub at_leaf_lem : (w : List ℕ) (d p : ℕ) (s : Passed) → d ≡ 0 → pass (regions_at w 0 p) s ≡ pass (regions_at w d p) s
+at_leaf_lem w d p s e = rw e
+
 -- m children of an inner page's words from child i on
 unfoldable pub kid_regions : List ℕ → ℕ → List ℕ → ℕ → ℕ → List Region
 kid_regions w h ws i zero = []

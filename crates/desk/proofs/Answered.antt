@@ -8,19 +8,16 @@ use lib.Dec.{ltb}
 use lib.ListN.{length, set, replicate}
 use native.Mathlib.Omega.{arith}
 use denote.Ref.{Bor}
-use borrow.Author.Tests.{eq-eqb, ne_eqb}
-use Rattle.std.specs.Prelude.{Result, Ok, Err, IfOk}
+use borrow.Author.Tests.{ne_eqb}
 use Rattle.words.specs.Lists.{first_no}
 use Rattle.words.proofs.Tests.{eq_yes, lt_yes, lt_no, nlt_of, not_false, and_true, and_false, first_0}
 use Rattle.regions.specs.Limits.{last_seat, seat_count, buffer_words}
 use Rattle.regions.specs.Numbers.{DONE, DESK, SEAT}
 use Rattle.regions.specs.Desk.{closed, opened, seat_at, is_open, desk_fits, buffer_fits, open_desk_no, open_seat_no, close_seat_no, part_no, part}
-use Rattle.regions.specs.Refusals.{number_told}
 use Rattle.regions.specs.declared.Kind.{Kind}
-use Rattle.regions.specs.declared.Refusal.{Refusal}
 use Rattle.regions.specs.declared.Seat.{Seat}
 use Rattle.seats.specs.Steps.{Opens, opens_no, Closes, closes_no, asked_no}
-use Rattle.parts.specs.Lent.{PartOf}
+use Rattle.parts.specs.Lent.{PartBy}
 use Rattle.desk.specs.Promises.{OpensDesk, OpensSeat, ClosesSeat, LendsPart, PartNumber, place_no}
 
 -- the tests behind those of the place are asked of nobody whom these refuse
@@ -137,11 +134,7 @@ module _ (ds : List Seat) where
               (s ∙ ap (λ (k : ℕ). asked_no (seat_at ds k).state n) same);
         }
 
-  pub part_is : (b : Bor (List ℕ)) (i n : ℕ) (r : Bor (List ℕ)) → part_no ds b.now i n ≡ 0 → PartOf b i n r → LendsPart ds b i n r
+  -- the part by its number is the part, and stands where the part does
+  pub part_is : (b : Bor (List ℕ)) (i n : ℕ) (r : Bor (List ℕ)) → PartBy (part_no ds b.now i n) b i n r → LendsPart ds b i n r
   unfolding part
-  part_is b i n r z p = record { part_is = record { words_are = rw (eq-eqb _ _ z) p.words_are }; place_is = λ _. p.place_is }
-
-  -- of a request that may be refused
-  pub part_lent : (b : Bor (List ℕ)) (i n : ℕ) (r : Result (Bor (List ℕ)) Refusal) → number_told r ≡ part_no ds b.now i n → IfOk r (λ x. PartOf b i n x) → IfOk r (λ x. LendsPart ds b i n x)
-  part_lent b i n (Ok x) e p = part_is b i n x (sym e) p
-  part_lent b i n (Err _) e p = p
+  part_is b i n r e = record { part_is = record { words_are = e.words_are }; place_is = e.place_is }

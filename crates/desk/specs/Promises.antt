@@ -43,11 +43,11 @@ pub record Rounds (outer inner : List ℕ) (ds : List Seat) (b : List ℕ) (numb
   pub desk_is : ds' ≡ unless number (map (turned (set_of outer) (set_of inner)) ds) ds
   pub buffer_is : b' ≡ unless number (served (set_of outer) (set_of inner) ds b) b
 
--- a part's words. (A refused request has none, and is handed none)
+-- a part's words; none where it is refused
 pub record Parts (ds : List Seat) (b : List ℕ) (i n : ℕ) (words : List ℕ) : Type 0 where
   pub words_are : words ≡ part ds b i n
 
--- a part is the lent words themselves, not equal ones elsewhere: it stands in the buffer, at the seat's first word. Of a refused request no place is promised
+-- a part is the lent words themselves, not equal ones elsewhere: it stands in the buffer, at the seat's first word. Of a refused one, which is empty, no place is promised
 pub record LendsPart (ds : List Seat) (buffer : Bor (List ℕ)) (i n : ℕ) (r : Bor (List ℕ)) : Type 0 where
   pub part_is : Parts ds buffer.now i n r.now
   pub place_is : part_no ds buffer.now i n ≡ 0 → r.ref_ptr ≡ word_at buffer (seat_word i)

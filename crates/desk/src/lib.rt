@@ -1,4 +1,4 @@
-// The desk: eight partner seats lent together as a slice of structs. Each public call takes any slices, tests in its order, and answers with its refusal where one fails.
+// The desk: eight partner seats lent together as a slice of structs. Each public call takes any slices, tests in its order, and answers with its refusal where one fails; a part's is told by `asks_part`.
 // What is decided of a seat is decided in functions that take it by value; the calls on the lent slice read, call, store and return.
 #![tactic(auto)]
 
@@ -69,10 +69,9 @@ pub fn asks_part(desk: &[Seat], buffer: &[u32], i: u32, count: u32) -> Result<()
     seats::may_ask(desk[at], count)
 }
 
-// A partner's part: the lent words themselves.
-pub fn part<'a>(desk: &[Seat], buffer: &'a [u32], i: u32, count: u32) -> Result<&'a [u32], Refusal>
-    ensures number { PartNumber desk.now buffer.now i count (number_told result) }
-    ensures lent { IfOk result (λ r. LendsPart desk.now buffer.entry i count r) }
+// A partner's part: the lent words themselves, and none where the request is refused; `asks_part` tells the refusal.
+pub fn part<'a>(desk: &[Seat], buffer: &'a [u32], i: u32, count: u32) -> &'a [u32]
+    ensures { LendsPart desk.now buffer.entry i count result }
 {
     parts::part_words(buffer, asks_part(desk, buffer, i, count), i, count)
 }

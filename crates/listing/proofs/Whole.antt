@@ -99,6 +99,15 @@ module _ (text : List ℕ) (line at : ℕ) where
 
 -- A LISTING
 module _ (text outer inner : List ℕ) where
+  pub image_first_lem : lent outer inner ≡ false → (n l : ℕ) → n ≡ 1 → l ≡ 0 → ReadsListing text outer inner n l outer inner
+  image_first_lem e n l f g =
+      record {
+        number_is = rw e f;
+        line_is = rw e g;
+        refused_is = λ h. (refl, refl);
+        done = λ z. absurd (let q : ◌≡◌ {A = ℕ} 1 0 = sym f ∙ z in omega arith);
+      }
+
   module _ (lo : length outer ≡ 12288) (li : length inner ≡ 12288) where
     both : lent outer inner ≡ true
     both = rw (eq_yes (length outer) 12288 lo, eq_yes (length inner) 12288 li) refl

@@ -8,7 +8,7 @@ use regions::{Region, Shares};
 
 // How far a pass has come: where those regions end that have not ended, outermost first, with their levels, in the first `top` places; and what is left of
 // each account's share. Levels rise inwards, so that the one in place k is above k, and the next place is still there.
-#[derive(Drop)]
+#[derive(Clone, Copy)]
 pub struct Pass {
     pub ends: [u32; regions::MOST_AROUND],
     pub levels: [u8; regions::MOST_AROUND],

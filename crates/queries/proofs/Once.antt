@@ -1,17 +1,15 @@
 -- Each promise of a call that asks has one result: any two results that it allows are equal.
 -- Assumes nothing.
-use Prim.Native.Nat.{ℕ, ◌-◌}
+use Prim.Native.Nat.{ℕ}
 use mathlib.Core.Path.{◌≡◌, refl, sym, ap, ◌∙◌}
 use mathlib.Core.Bool.{Bool, true≢false}
-use mathlib.Core.List.{List, [], ◌∷◌, head-eq_of_cons-eq}
-use lib.ListN.{get_or}
+use mathlib.Core.List.{List, head-eq_of_cons-eq}
 use Rattle.std.specs.Prelude.{Option, Some, None, Result, Ok, Err}
 use Rattle.words.specs.Lists.{some}
 use Rattle.words.proofs.Tests.{either_way}
-use Rattle.regions.specs.Refusals.{refusal_number, number_told}
+use Rattle.regions.specs.Refusals.{number_told}
 use Rattle.regions.specs.declared.Refusal.{Refusal}
-use Rattle.regions.specs.declared.Refusal.TheVariants.{Image, Region as OfRegion, Account, Held, Cross, Share, Absent, Shares, Seat, Limit, Desk, Form, Room, Level}
-use Rattle.regions.proofs.Refused.{refused_some}
+use Rattle.regions.proofs.Refused.{refused_some, same_refusal}
 use Rattle.regions.specs.declared.Region.{Region}
 use Rattle.regions.specs.declared.Choice.{Choice}
 use Rattle.regions.specs.declared.Kind.{Kind}
@@ -25,30 +23,6 @@ ancestors_once w a p ch out m n s t i j u v x y =
     either_way m n e
     (λ c d. (e, (x.done c).0 ∙ sym (y.done d).0, (x.done c).1 ∙ sym (y.done d).1, (x.done c).2 ∙ sym (y.done d).2))
     (λ c d. (e, (x.refused c).0 ∙ sym (y.refused d).0, (x.refused c).1 ∙ sym (y.refused d).1, (x.refused c).2 ∙ sym (y.refused d).2))
-
--- A REFUSAL is one where its number is
--- (the table's refusals in their order)
-abbrev table : List Refusal
-table = Image ∷ OfRegion ∷ Account ∷ Held ∷ Cross ∷ Share ∷ Absent ∷ Shares ∷ Seat ∷ Limit ∷ Desk ∷ Form ∷ Room ∷ Level ∷ []
-
-named : (r : Refusal) → get_or table (refusal_number r - 1) Image ≡ r
-named Image = refl
-named OfRegion = refl
-named Account = refl
-named Held = refl
-named Cross = refl
-named Share = refl
-named Absent = refl
-named Shares = refl
-named Seat = refl
-named Limit = refl
-named Desk = refl
-named Form = refl
-named Room = refl
-named Level = refl
-
-same_refusal : (r s : Refusal) → refusal_number r ≡ refusal_number s → r ≡ s
-same_refusal r s e = sym (named r) ∙ ap (λ (n : ℕ). get_or table (n - 1) Image) e ∙ named s
 
 -- the parent search's answer
 pub same_answer : (x y : Result (Option Region) Refusal) → number_told x ≡ number_told y → parent_found x ≡ parent_found y → x ≡ y

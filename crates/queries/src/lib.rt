@@ -50,12 +50,15 @@ pub fn find_ancestors(
     })
 }
 
-// The strict ancestor of p whose level is one less than the given one, or none: there is never a second one.
+// The strict ancestor of p whose level is one less than the given one, or none: there is never a second one. (What was found is taken apart by `let .. else`, as document 01 has it here.)
 pub fn find_parent(img: &[u32], account: u32, p: u32, level: u32) -> Result<Option<Region>, Refusal>
     ensures { FindsParent img.now account p level result }
 {
     may_search_at(img, account, p)?;
-    Ok(search::parent(img, p, level))
+    let Some(r) = search::parent(img, p, level) else {
+        return Ok(None);
+    };
+    Ok(Some(r))
 }
 
 // Whether a search by bounds may go on: IMAGE, REGION, ACCOUNT.

@@ -38,13 +38,9 @@ pub fn call(rt: &impl Print, seats: &mut [Seat], buffer: &[u32], c: Command) -> 
 
 // A part: its number, then its words.
 fn part(rt: &impl Print, seats: &[Seat], buffer: &[u32], n: Numbers) -> io::Result<()> {
-    match desk::part(seats, buffer, n[0], n[1]) {
-        Ok(words) => {
-            console::line(rt, &[0])?;
-            console::rows(rt, words, words.len() / 4)
-        }
-        Err(refusal) => console::line(rt, &[u32::from(refusal)]),
-    }
+    number(rt, desk::asks_part(seats, buffer, n[0], n[1]))?;
+    let words = desk::part(seats, buffer, n[0], n[1]);
+    console::rows(rt, words, words.len() / 4)
 }
 
 // A round: its number and the eight counts, which are 0 where it is refused.

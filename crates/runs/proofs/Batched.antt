@@ -25,7 +25,7 @@ use Rattle.runs.specs.Calls.Runs.{stop, go, batch}
 use Rattle.runs.specs.Calls.Singles.{none, then}
 
 -- what is written behind the first place of a list
-sets_cons : (x : ℕ) (l : List ℕ) (i : ℕ) (vs : List ℕ) → sets (x ∷ l) (suc i) vs ≡ x ∷ sets l i vs
+pub sets_cons : (x : ℕ) (l : List ℕ) (i : ℕ) (vs : List ℕ) → sets (x ∷ l) (suc i) vs ≡ x ∷ sets l i vs
 sets_cons x l i [] = refl
 sets_cons x l i (v ∷ vs) = sets_cons x (set l i v) (suc i) vs
 

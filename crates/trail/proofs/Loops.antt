@@ -79,7 +79,7 @@ module _ (w : List ℕ) (h : Home) where
       let v : n + 1 - 0 ≡ suc (fill_of (page_of w p)) = omega arith in
       rw (q, v, regions_inner)
 
-  kids_suc : (d : ℕ) (ws : List ℕ) (i m : ℕ) (t : Trail) → follow w h (kids_regions w d ws i (suc m)) t ≡ option_and_then (follow w h (kids_regions w d ws (suc i) m)) (follow w h (regions_at w d (child_in ws i)) t)
+  pub kids_suc : (d : ℕ) (ws : List ℕ) (i m : ℕ) (t : Trail) → follow w h (kids_regions w d ws i (suc m)) t ≡ option_and_then (follow w h (kids_regions w d ws (suc i) m)) (follow w h (regions_at w d (child_in ws i)) t)
   unfolding kids_regions
   kids_suc d ws i m t = follow_append w h (regions_at w d (child_in ws i)) (kids_regions w d ws (suc i) m) t
 
