@@ -103,7 +103,7 @@ module _ (ds : List Seat) where
           desk_is = ap (set ds j) o.seat_is ∙ ap (λ (k : ℕ). set ds k closed) same;
         }
 
-  -- the part of a request that is not refused, and its number, by the tests that led there
+  -- the number of a request, by the tests that led there
   module _ (b : List ℕ) (i n : ℕ) where
     pub asked_no_buffer : (length b ≡ buffer_words → ⊥) → PartNumber ds b i n DESK
     unfolding part_no first_no buffer_fits

@@ -1,13 +1,11 @@
 -- Seats in numbers: what the small functions make, and that a seat told in numbers is read back as it was.
 -- Assumes nothing.
-use Prim.Native.Nat.{ℕ, ◌+◌, ◌<◌, ◌≤◌}
+use Prim.Native.Nat.{ℕ, ◌<◌, ◌≤◌}
 use mathlib.Core.Path.{◌≡◌, sym, ap, ◌∙◌, refl}
 use mathlib.Core.List.{List, [], ◌∷◌, map}
-use lib.Dec.{eqb}
-use lib.ListN.{length, get_or, set, length-map, get_or-map, length-set}
-use lib.Seq.{ext_get_or, get_or-set_same, get_or-set_other}
+use lib.ListN.{length, get_or, length-map, get_or-map}
+use lib.Seq.{ext_get_or}
 use native.Mathlib.Omega.{arith}
-use Rattle.words.proofs.Tests.{by_test, eq_of, ne_of}
 use Rattle.regions.specs.declared.Mark.{Mark}
 use Rattle.regions.specs.declared.Open.{Open}
 use Rattle.regions.specs.Desk.{open_at}
@@ -35,15 +33,6 @@ mapped f d xs ys n e k each =
 -- one after the other: the first i of n are made
 abbrev pub Made : {A B : Type 0} → (A → B) → A → List A → List B → ℕ → ℕ → Type 0
 Made f d xs ys n i = (length ys ≡ n) × ((k : ℕ) → k < i → get_or ys k (f d) ≡ f (get_or xs k d))
-
-pub made_next : {A B : Type 0} (f : A → B) (d : A) (xs : List A) (ys : List B) (n i : ℕ) (y : B) → Made f d xs ys n i → i < n → y ≡ f (get_or xs i d) → Made f d xs (set ys i y) n (i + 1)
-made_next f d xs ys n i y m l e = (
-  simp length-set m.0,
-  λ k h.
-      by_test (eqb k i)
-      (λ t. let q = eq_of k i t in ap (λ j. get_or (set ys i y) j (f d)) q ∙ get_or-set_same ys i y (f d) (omega (arith, m.0)) ∙ e ∙ ap (λ j. f (get_or xs j d)) (sym q))
-      (λ t. let q = ne_of k i t in get_or-set_other ys i k y (f d) q ∙ m.1 k (omega (arith, h, q))),
-)
 
 pub all_made : {A B : Type 0} (f : A → B) (d : A) (xs : List A) (ys : List B) (n i : ℕ) → length xs ≡ n → Made f d xs ys n i → n ≤ i → ys ≡ map f xs
 all_made f d xs ys n i e m l = mapped f d xs ys n e m.0 (λ k h. m.1 k (omega arith))

@@ -4,12 +4,12 @@ use Prim.Native.Nat.{ℕ}
 use mathlib.Core.Path.{◌≡◌, refl, sym, ap, ◌∙◌}
 use mathlib.Core.Bool.{Bool, true≢false}
 use mathlib.Core.List.{List, head-eq_of_cons-eq}
-use Rattle.std.specs.Prelude.{Option, Some, None, Result, Ok, Err}
+use Rattle.std.specs.Prelude.{Option, Some, None, Result, Ok}
 use Rattle.words.specs.Lists.{some}
 use Rattle.words.proofs.Tests.{either_way}
 use Rattle.regions.specs.Refusals.{number_told}
 use Rattle.regions.specs.declared.Refusal.{Refusal}
-use Rattle.regions.proofs.Refused.{refused_some, same_refusal}
+use Rattle.regions.proofs.Refused.{same_told}
 use Rattle.regions.specs.declared.Region.{Region}
 use Rattle.regions.specs.declared.Choice.{Choice}
 use Rattle.regions.specs.declared.Kind.{Kind}
@@ -25,15 +25,15 @@ ancestors_once w a p ch out m n s t i j u v x y =
     (λ c d. (e, (x.refused c).0 ∙ sym (y.refused d).0, (x.refused c).1 ∙ sym (y.refused d).1, (x.refused c).2 ∙ sym (y.refused d).2))
 
 -- the parent search's answer
-pub same_answer : (x y : Result (Option Region) Refusal) → number_told x ≡ number_told y → parent_found x ≡ parent_found y → x ≡ y
+same_found : (x y : Option Region) → parent_found (Ok x) ≡ parent_found (Ok y) → x ≡ y
 unfolding parent_found some
-same_answer (Err r) (Err s) e f = ap Err (same_refusal r s e)
-same_answer (Err r) (Ok x) e f = absurd (refused_some r e)
-same_answer (Ok x) (Err s) e f = absurd (refused_some s (sym e))
-same_answer (Ok None) (Ok None) e f = refl
-same_answer (Ok None) (Ok (Some s)) e f = absurd (true≢false (sym (ap some f)))
-same_answer (Ok (Some r)) (Ok None) e f = absurd (true≢false (ap some f))
-same_answer (Ok (Some r)) (Ok (Some s)) e f = ap (λ (t : Region). Ok (Some t)) (head-eq_of_cons-eq f)
+same_found None None f = refl
+same_found None (Some s) f = absurd (true≢false (sym (ap some f)))
+same_found (Some r) None f = absurd (true≢false (ap some f))
+same_found (Some r) (Some s) f = ap Some (head-eq_of_cons-eq f)
+
+pub same_answer : (x y : Result (Option Region) Refusal) → number_told x ≡ number_told y → parent_found x ≡ parent_found y → x ≡ y
+same_answer x y e f = same_told x y e (λ a b p q. same_found a b (ap parent_found (sym p) ∙ f ∙ ap parent_found q))
 
 pub parent_once : (w : List ℕ) (a p l : ℕ) (x y : Result (Option Region) Refusal) → FindsParent w a p l x → FindsParent w a p l y → x ≡ y
 parent_once w a p l x y f g =
